@@ -1,0 +1,57 @@
+ghost use mathlib.Core.Path.{_≡_};
+ghost use Rattle.cells.specs.Lifts.{same-lift, before-lift, lift-code, lift-reads};
+use crate::cell::Cell;
+
+/// Whether the warp thread lies below or above the weft.
+#[derive(Clone, Copy, PartialEq, Eq, Debug, Default)]
+pub enum Lift {
+    #[default]
+    Sunk,
+    Raised,
+}
+
+pub impl Cell for Lift as LiftCell {
+    ghost kind = { record { same = same-lift; before = before-lift } };
+
+    ghost code = { lift-code };
+
+    ghost reading = { record { width = 1; reads = lift-reads } };
+
+    const BYTES: usize = 1;
+
+    fn width() -> usize {
+        Self::BYTES
+    }
+
+    fn same(self, other: Lift) -> bool {
+        match (self, other) {
+            (Lift::Sunk, Lift::Sunk) | (Lift::Raised, Lift::Raised) => true,
+            _ => false,
+        }
+    }
+
+    fn before(self, other: Lift) -> bool {
+        match (self, other) {
+            (Lift::Sunk, Lift::Raised) => true,
+            _ => false,
+        }
+    }
+
+    fn code_of(self) -> u8 {
+        match self {
+            Lift::Sunk => 0,
+            Lift::Raised => 1,
+        }
+    }
+
+    fn read(bytes: &[u8]) -> Option<Lift> {
+        let [byte] = bytes else {
+            return None;
+        };
+        match *byte as char {
+            '#' => Some(Lift::Raised),
+            '.' => Some(Lift::Sunk),
+            _ => None,
+        }
+    }
+}
