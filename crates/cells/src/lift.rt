@@ -55,3 +55,41 @@ pub impl Cell for Lift as LiftCell {
         }
     }
 }
+
+/// What the kind answers through its trait, said by the definitions of lifts alone.
+impl Lift {
+    /// How many bytes a lift takes in a file.
+    pub fn bytes() -> usize
+        ensures { λ n. ⌜ n ≡ 1 ⌝ }
+    {
+        LiftCell::width()
+    }
+
+    /// Whether two lifts are equal.
+    pub fn equals(self, other: Lift) -> bool
+        ensures { λ y. ⌜ y ≡ same-lift self other ⌝ }
+    {
+        self.same(other)
+    }
+
+    /// Whether this lift is before the other.
+    pub fn precedes(self, other: Lift) -> bool
+        ensures { λ y. ⌜ y ≡ before-lift self other ⌝ }
+    {
+        self.before(other)
+    }
+
+    /// The code of the lift.
+    pub fn code(self) -> u8
+        ensures { λ n. ⌜ n ≡ lift-code self ⌝ }
+    {
+        self.code_of()
+    }
+
+    /// The lift that the bytes read as.
+    pub fn parse(bytes: &[u8]) -> Option<Lift>
+        ensures { λ x. ⌜ x ≡ lift-reads (now (bytes .entry)) ⌝ }
+    {
+        LiftCell::read(bytes)
+    }
+}

@@ -48,3 +48,41 @@ pub impl Cell for Thread as ThreadCell {
         })
     }
 }
+
+/// What the kind answers through its trait, said by the definitions of threads alone.
+impl Thread {
+    /// How many bytes a thread takes in a file.
+    pub fn bytes() -> usize
+        ensures { λ n. ⌜ n ≡ 3 ⌝ }
+    {
+        ThreadCell::width()
+    }
+
+    /// Whether two threads are equal.
+    pub fn equals(self, other: Thread) -> bool
+        ensures { λ y. ⌜ y ≡ same-thread self other ⌝ }
+    {
+        self.same(other)
+    }
+
+    /// Whether this thread is before the other.
+    pub fn precedes(self, other: Thread) -> bool
+        ensures { λ y. ⌜ y ≡ before-thread self other ⌝ }
+    {
+        self.before(other)
+    }
+
+    /// The code of the thread.
+    pub fn code(self) -> u8
+        ensures { λ n. ⌜ n ≡ thread-code self ⌝ }
+    {
+        self.code_of()
+    }
+
+    /// The thread that the bytes read as.
+    pub fn parse(bytes: &[u8]) -> Option<Thread>
+        ensures { λ x. ⌜ x ≡ thread-reads (now (bytes .entry)) ⌝ }
+    {
+        ThreadCell::read(bytes)
+    }
+}
