@@ -5,10 +5,11 @@ use Prim.Native.Nat.{ℕ, _*_}
 use lib.Dec.{eqb}
 use lib.ListN.{length}
 use Rattle.std.specs.declared.option.Option.{Option}
-use Rattle.std.specs.Options.{isSome, valueOr}
+use Rattle.std.specs.Options.{isSome}
 use Rattle.grids.specs.Grids.{Grid, tile, laid}
 use Rattle.grids.specs.Refusals.{first-failed, between}
-use Rattle.cells.specs.Readings.{Reading, cells-read}
+use Rattle.cells.specs.Readings.{Reading}
+use Rattle.readings.specs.CellLists.{cells-read}
 
 -- a size within the limits of a draft
 abbrev pub draft-size : ℕ → ℕ → Bool
@@ -33,7 +34,3 @@ module _ {C : Type 0} where
   -- the grid that cells make, row after row
   abbrev pub sheet : ℕ → ℕ → List C → Grid C
   sheet rows cols cells = laid (tile rows cols cells)
-
-  -- the cells that file bytes read as; none where some cell's bytes read as none
-  abbrev pub cells-of : Reading C → ℕ → List ℕ → List C
-  cells-of k n bs = valueOr (cells-read k n bs) []

@@ -6,7 +6,8 @@ ghost use denote.Ref.{now};
 ghost use Rattle.grids.specs.Grids.{Grid, DrawnGrid};
 ghost use Rattle.grids.specs.Refusals.{unless, numbered-by};
 ghost use Rattle.drafts.specs.Tallies.{Tally, counted};
-ghost use Rattle.drafts.specs.Making.{sheet-refusal, bytes-refusal, sheet, cells-of};
+ghost use Rattle.drafts.specs.Making.{sheet-refusal, bytes-refusal, sheet};
+ghost use Rattle.readings.specs.CellLists.{cells-of};
 use cells::Cell;
 use grids::Refusal;
 
