@@ -1,6 +1,7 @@
 -- An answer once it is known whether there is a refusal.
 use mathlib.Core.Path.{_≡_, refl, ap}
 use Prim.Native.Nat.{ℕ}
+use native.Mathlib.Omega.{arith}
 use Rattle.std.specs.declared.option.Option.{Option}
 use Rattle.std.specs.declared.option.Option.the-variants.{Some, None}
 use Rattle.std.specs.declared.result.Result.the-variants.{Ok, Err}
@@ -15,3 +16,12 @@ module _ {X : Type 0} (o : Option ℕ) where
 
   pub kept-or-none : (was new z : X) → o ≡ None → z ≡ new → z ≡ kept-or o was new
   kept-or-none was new z e f = rw e f
+
+-- what an answer tells of the refusal
+pub unless-ok : {X : Type 0} (o : Option ℕ) (x y : X) → Ok y ≡ unless o x → (o ≡ None) × (y ≡ x)
+unless-ok None x y h = (refl, cc)
+unless-ok (Some n) x y h = let z : _≡_ {A = ℕ} 0 1 = cc in absurd (omega arith)
+
+pub unless-err : {X : Type 0} (o : Option ℕ) (x : X) (n : ℕ) → Err n ≡ unless o x → o ≡ Some n
+unless-err None x n h = let z : _≡_ {A = ℕ} 0 1 = cc in absurd (omega arith)
+unless-err (Some m) x n h = let e : m ≡ n = cc in ap Some e

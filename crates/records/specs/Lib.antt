@@ -1,0 +1,4 @@
+pub mod Marks
+pub mod Entries
+pub mod Fronts
+pub mod Files
