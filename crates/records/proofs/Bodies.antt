@@ -15,12 +15,12 @@ use Rattle.cells.specs.Readings.{Reading}
 use Rattle.readings.specs.CellLists.{cells-read}
 use Rattle.records.specs.Marks.{Mark}
 use Rattle.records.specs.Entries.{Entry}
-use Rattle.records.specs.Fronts.{rows-in, cols-in, body-size, body-checks, entry-in, rest-in}
+use Rattle.records.specs.Fronts.{rows-in, cols-in, body-size, body-checks, entry-in}
 
--- the size and the body that were read from the bytes bs, where they are whole
+-- the size and the body that were read from bs, which follow the mark, where they are whole
 pub record Header {C : Type 0} (k : Reading C) (most : ℕ) (bs body : List ℕ) (rows cols w : ℕ) : Type 0 where
-  pub long : 6 ≤ length bs
-  pub body-is : body ≡ drop 6 bs
+  pub long : 4 ≤ length bs
+  pub body-is : body ≡ drop 4 bs
   pub rows-is : rows ≡ rows-in bs
   pub cols-is : cols ≡ cols-in bs
   pub width-is : w ≡ k .width
@@ -34,8 +34,8 @@ module _ {C : Type 0} (k : Reading C) (most bad : ℕ) (bs body : List ℕ) (row
   size-is : rows * cols * w ≡ body-size k bs
   size-is = ap (λ n. n * w) count-is ∙ ap (λ n. rows-in bs * cols-in bs * n) (h .width-is)
 
-  header-ok : leb 6 (length bs) ≡ true
-  header-ok = le-leb 6 (length bs) (h .long)
+  header-ok : leb 4 (length bs) ≡ true
+  header-ok = le-leb 4 (length bs) (h .long)
 
   size-ok : (between 1 most (rows-in bs) && between 1 most (cols-in bs)) ≡ true
   size-ok =
@@ -46,10 +46,10 @@ module _ {C : Type 0} (k : Reading C) (most bad : ℕ) (bs body : List ℕ) (row
       (and-from (leb 1 (rows-in bs)) (leb (rows-in bs) most) (le-leb 1 (rows-in bs) (subst (λ n. 1 ≤ n) r (s .0))) (le-leb (rows-in bs) most (subst (λ n. n ≤ most) r (s .1))))
       (and-from (leb 1 (cols-in bs)) (leb (cols-in bs) most) (le-leb 1 (cols-in bs) (subst (λ n. 1 ≤ n) c (s .2))) (le-leb (cols-in bs) most (subst (λ n. n ≤ most) c (s .3))))
 
-  whole-ok : leb (6 + body-size k bs) (length bs) ≡ true
-  whole-ok = le-leb (6 + body-size k bs) (length bs) (omega (arith, size-is, h .whole, ap length (h .body-is), length-drop 6 bs, h .long))
+  whole-ok : leb (4 + body-size k bs) (length bs) ≡ true
+  whole-ok = le-leb (4 + body-size k bs) (length bs) (omega (arith, size-is, h .whole, ap length (h .body-is), length-drop 4 bs, h .long))
 
-  pub read-is : isSome (cells-read k (rows * cols) body) ≡ isSome (cells-read k (rows-in bs * cols-in bs) (drop 6 bs))
+  pub read-is : isSome (cells-read k (rows * cols) body) ≡ isSome (cells-read k (rows-in bs * cols-in bs) (drop 4 bs))
   read-is = ap (λ n. isSome (cells-read k n body)) count-is ∙ ap (λ xs. isSome (cells-read k (rows-in bs * cols-in bs) xs)) (h .body-is)
 
   pub body-passes : isSome (cells-read k (rows * cols) body) ≡ true → first-failed (body-checks k most bad bs) ≡ None
@@ -63,5 +63,5 @@ module _ {C : Type 0} (k : Reading C) (most bad : ℕ) (bs body : List ℕ) (row
       let E : ℕ → ℕ → List ℕ → Entry = λ r c xs. record { mark = m; rows = r; cols = c; bytes = xs } in
       ap (λ r. E r cols cells) (h .rows-is) ∙ (ap (λ c. E (rows-in bs) c cells) (h .cols-is) ∙ ap (E (rows-in bs) (cols-in bs)) (e ∙ (ap (λ n. take n body) size-is ∙ ap (take (body-size k bs)) (h .body-is))))
 
-  pub rest-is : (rest : List ℕ) → rest ≡ drop (rows * cols * w) body → rest ≡ rest-in k bs
-  rest-is rest e = e ∙ (ap (λ n. drop n body) size-is ∙ (ap (drop (body-size k bs)) (h .body-is) ∙ drop-drop (body-size k bs) 6 bs))
+  pub rest-is : (rest : List ℕ) → rest ≡ drop (rows * cols * w) body → rest ≡ drop (4 + body-size k bs) bs
+  rest-is rest e = e ∙ (ap (λ n. drop n body) size-is ∙ (ap (drop (body-size k bs)) (h .body-is) ∙ drop-drop (body-size k bs) 4 bs))

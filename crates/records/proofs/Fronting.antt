@@ -10,7 +10,7 @@ use Rattle.std.specs.declared.option.Option.{Option}
 use Rattle.std.specs.declared.option.Option.the-variants.{Some, None}
 use Rattle.std.specs.declared.result.Result.the-variants.{Ok, Err}
 use Rattle.std.specs.Options.{isSome}
-use Rattle.std.proofs.shelf.Lists.{length-drop}
+use Rattle.std.proofs.shelf.Lists.{length-drop, drop-drop}
 use Rattle.std.proofs.shelf.Tests.{leb-true, both-ways}
 use Rattle.grids.specs.Refusals.{first-failed, between, unless}
 use Rattle.grids.proofs.Refusing.{unless-ok, unless-err}
@@ -18,7 +18,7 @@ use Rattle.cells.specs.Readings.{Reading}
 use Rattle.readings.specs.CellLists.{cells-read}
 use Rattle.records.specs.Marks.{known, limit, size-number}
 use Rattle.records.specs.Entries.{Entry}
-use Rattle.records.specs.Fronts.{Front, whole, faulty, mark-in, rows-in, cols-in, body-size, body-checks, record-fault, entry-in, rest-in, parted, faulty-or, front}
+use Rattle.records.specs.Fronts.{Front, whole, faulty, mark-in, after-mark, rows-in, cols-in, body-size, body-checks, record-fault, entry-in, parted, faulty-or, front}
 
 -- where no check fails, the first passes, and none of the others fails
 passed : (x : Bool) (n : ℕ) (xs : List (Bool × ℕ)) → first-failed ((x, n) ∷ xs) ≡ None → (x ≡ true) × (first-failed xs ≡ None)
@@ -27,19 +27,22 @@ passed false n xs h = let z : _≡_ {A = ℕ} 0 1 = cc in absurd (omega arith)
 
 module _ {C : Type 0} (k : Reading C) (bs : List ℕ) where
   -- a record with no fault is whole
-  pub fits : record-fault k bs ≡ None → 6 + body-size k bs ≤ length bs
+  pub fits : record-fault k bs ≡ None → 2 + (4 + body-size k (after-mark bs)) ≤ length bs
   fits h =
       let m = mark-in bs in
-      let a = passed (leb 2 (length bs)) 11 ((known m, 10) ∷ body-checks k (limit m) (size-number m) bs) h .1 in
-      let b = passed (known m) 10 (body-checks k (limit m) (size-number m) bs) a .1 in
-      let read : List (Bool × ℕ) = (isSome (cells-read k (rows-in bs * cols-in bs) (drop 6 bs)), 12) ∷ [] in
-      let held : List (Bool × ℕ) = (leb (6 + body-size k bs) (length bs), 11) ∷ read in
-      let sized = between 1 (limit m) (rows-in bs) && between 1 (limit m) (cols-in bs) in
-      let d = passed (leb 6 (length bs)) 11 ((sized, size-number m) ∷ held) b .1 in
+      let rest = after-mark bs in
+      let checks = body-checks k (limit m) (size-number m) rest in
+      let read : List (Bool × ℕ) = (isSome (cells-read k (rows-in rest * cols-in rest) (drop 4 rest)), 12) ∷ [] in
+      let held : List (Bool × ℕ) = (leb (4 + body-size k rest) (length rest), 11) ∷ read in
+      let sized = between 1 (limit m) (rows-in rest) && between 1 (limit m) (cols-in rest) in
+      let a = passed (leb 2 (length bs)) 11 ((known m, 10) ∷ checks) h in
+      let b = passed (known m) 10 checks (a .1) .1 in
+      let d = passed (leb 4 (length rest)) 11 ((sized, size-number m) ∷ held) b .1 in
       let e = passed sized (size-number m) held d .1 in
-      leb-true (6 + body-size k bs) (length bs) (passed (leb (6 + body-size k bs) (length bs)) 11 read e .0)
+      let l = leb-true (4 + body-size k rest) (length rest) (passed (leb (4 + body-size k rest) (length rest)) 11 read e .0) in
+      omega (arith, l, leb-true 2 (length bs) (a .0), length-drop 2 bs)
 
-front-some : {C : Type 0} (k : Reading C) (bs : List ℕ) → 0 < length bs → front k bs ≡ faulty-or (record-fault k bs) (entry-in k (mark-in bs) bs) (6 + body-size k bs)
+front-some : {C : Type 0} (k : Reading C) (bs : List ℕ) → 0 < length bs → front k bs ≡ faulty-or (record-fault k bs) (entry-in k (mark-in bs) (after-mark bs)) (2 + (4 + body-size k (after-mark bs)))
 front-some k [] h = absurd (omega arith)
 front-some k (b ∷ bs) h = refl
 
@@ -50,19 +53,19 @@ pub record Parted (bs rest : List ℕ) (e : Entry) (f : Front) : Type 0 where
   pub rest-is : rest ≡ drop (length bs - length rest) bs
 
 module _ {C : Type 0} (k : Reading C) (bs : List ℕ) (some : 0 < length bs) where
-  pub front-whole : (e : Entry) (rest : List ℕ) → Ok (e, rest) ≡ unless (record-fault k bs) (parted k (mark-in bs) bs) → Parted bs rest e (front k bs)
+  pub front-whole : (e : Entry) (rest : List ℕ) → Ok (e, rest) ≡ unless (record-fault k bs) (parted k (mark-in bs) (after-mark bs)) → Parted bs rest e (front k bs)
   front-whole e rest h =
-      let u = unless-ok (record-fault k bs) (parted k (mark-in bs) bs) (e, rest) h in
-      let n = 6 + body-size k bs in
+      let u = unless-ok (record-fault k bs) (parted k (mark-in bs) (after-mark bs)) (e, rest) h in
+      let n = 2 + (4 + body-size k (after-mark bs)) in
       let l = fits k bs (u .0) in
-      let entry-is : e ≡ entry-in k (mark-in bs) bs = ap (λ p. p .0) (u .1) in
-      let r : rest ≡ drop n bs = ap (λ p. p .1) (u .1) in
+      let entry-is : e ≡ entry-in k (mark-in bs) (after-mark bs) = ap (λ p. p .0) (u .1) in
+      let r : rest ≡ drop n bs = ap (λ p. p .1) (u .1) ∙ drop-drop (4 + body-size k (after-mark bs)) 2 bs in
       let m : n ≡ length bs - length rest = omega (arith, l, ap length r, length-drop n bs) in
       record {
-        is = front-some k bs some ∙ (ap (λ o. faulty-or o (entry-in k (mark-in bs) bs) n) (u .0) ∙ (ap (λ x. whole x n) (sym entry-is) ∙ ap (whole e) m));
+        is = front-some k bs some ∙ (ap (λ o. faulty-or o (entry-in k (mark-in bs) (after-mark bs)) n) (u .0) ∙ (ap (λ x. whole x n) (sym entry-is) ∙ ap (whole e) m));
         shorter = omega (arith, l, ap length r, length-drop n bs);
         rest-is = r ∙ ap (λ i. drop i bs) m;
       }
 
-  pub front-faulty : (n : ℕ) → Err n ≡ unless (record-fault k bs) (parted k (mark-in bs) bs) → front k bs ≡ faulty n
-  front-faulty n h = front-some k bs some ∙ ap (λ o. faulty-or o (entry-in k (mark-in bs) bs) (6 + body-size k bs)) (unless-err (record-fault k bs) (parted k (mark-in bs) bs) n h)
+  pub front-faulty : (n : ℕ) → Err n ≡ unless (record-fault k bs) (parted k (mark-in bs) (after-mark bs)) → front k bs ≡ faulty n
+  front-faulty n h = front-some k bs some ∙ ap (λ o. faulty-or o (entry-in k (mark-in bs) (after-mark bs)) (2 + (4 + body-size k (after-mark bs)))) (unless-err (record-fault k bs) (parted k (mark-in bs) (after-mark bs)) n h)

@@ -29,13 +29,17 @@ word bs i = getD bs i 0 + getD bs (i + 1) 0 * 256
 abbrev pub mark-in : List ℕ → Mark
 mark-in bs = mark (getD bs 0 0) (getD bs 1 0)
 
--- the rows after the mark
-abbrev pub rows-in : List ℕ → ℕ
-rows-in bs = word bs 2
+-- what follows the mark
+abbrev pub after-mark : List ℕ → List ℕ
+after-mark bs = drop 2 bs
 
--- the columns after the rows
+-- the rows, which follow the mark
+abbrev pub rows-in : List ℕ → ℕ
+rows-in rest = word rest 0
+
+-- the columns, which follow the rows
 abbrev pub cols-in : List ℕ → ℕ
-cols-in bs = word bs 4
+cols-in rest = word rest 2
 
 -- a fault, or else a record of n bytes
 abbrev pub faulty-or : Option ℕ → Entry → ℕ → Front
@@ -43,42 +47,38 @@ faulty-or None e n = whole e n
 faulty-or (Some f) e n = faulty f
 
 module _ {C : Type 0} where
-  -- how many bytes the cells take
+  -- how many bytes the cells take, by what follows the mark
   abbrev pub body-size : Reading C → List ℕ → ℕ
-  body-size k bs = rows-in bs * cols-in bs * k .width
+  body-size k rest = rows-in rest * cols-in rest * k .width
 
-  -- the checks of a record after its mark: header whole, size from 1 to `most`, cells whole, cells read
+  -- the checks of what follows the mark: header whole, size from 1 to `most`, cells whole, cells read
   abbrev pub body-checks : Reading C → ℕ → ℕ → List ℕ → List (Bool × ℕ)
-  body-checks k most bad-size bs =
-      ((leb 6 (length bs), 11)
-      ∷ (between 1 most (rows-in bs) && between 1 most (cols-in bs), bad-size)
-      ∷ (leb (6 + body-size k bs) (length bs), 11)
-      ∷ (isSome (cells-read k (rows-in bs * cols-in bs) (drop 6 bs)), 12)
+  body-checks k most bad-size rest =
+      ((leb 4 (length rest), 11)
+      ∷ (between 1 most (rows-in rest) && between 1 most (cols-in rest), bad-size)
+      ∷ (leb (4 + body-size k rest) (length rest), 11)
+      ∷ (isSome (cells-read k (rows-in rest * cols-in rest) (drop 4 rest)), 12)
       ∷ [])
 
-  -- the number of what is wrong with the record at the front: mark whole, mark known, then the checks after it
+  -- the number of what is wrong with the record at the front: mark whole, mark known, then what follows the mark
   abbrev pub record-fault : Reading C → List ℕ → Option ℕ
   record-fault k bs = first-failed
       ((leb 2 (length bs), 11)
       ∷ (known (mark-in bs), 10)
-      ∷ body-checks k (limit (mark-in bs)) (size-number (mark-in bs)) bs)
+      ∷ body-checks k (limit (mark-in bs)) (size-number (mark-in bs)) (after-mark bs))
 
-  -- the record at the front, where nothing is wrong with it
+  -- the record under the mark m, by what follows it
   abbrev pub entry-in : Reading C → Mark → List ℕ → Entry
-  entry-in k m bs = record { mark = m; rows = rows-in bs; cols = cols-in bs; bytes = take (body-size k bs) (drop 6 bs) }
+  entry-in k m rest = record { mark = m; rows = rows-in rest; cols = cols-in rest; bytes = take (body-size k rest) (drop 4 rest) }
 
-  -- the bytes after the record at the front
-  abbrev pub rest-in : Reading C → List ℕ → List ℕ
-  rest-in k bs = drop (6 + body-size k bs) bs
-
-  -- the record at the front, and the bytes after it
+  -- that record, and the bytes after it
   abbrev pub parted : Reading C → Mark → List ℕ → Entry × List ℕ
-  parted k m bs = (entry-in k m bs, rest-in k bs)
+  parted k m rest = (entry-in k m rest, drop (4 + body-size k rest) rest)
 
   -- what stands at the front of the bytes
   abbrev pub front : Reading C → List ℕ → Front
   front k [] = end
-  front k (b ∷ bs) = faulty-or (record-fault k (b ∷ bs)) (entry-in k (mark-in (b ∷ bs)) (b ∷ bs)) (6 + body-size k (b ∷ bs))
+  front k (b ∷ bs) = faulty-or (record-fault k (b ∷ bs)) (entry-in k (mark-in (b ∷ bs)) (after-mark (b ∷ bs))) (2 + (4 + body-size k (after-mark (b ∷ bs))))
 
 -- what a reader at byte n answers
 abbrev pub next-answer : ℕ → Front → Result (Option Entry) FaultAt

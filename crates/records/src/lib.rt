@@ -8,7 +8,7 @@ ghost use Rattle.grids.specs.Numbers.{number};
 ghost use Rattle.grids.specs.Refusals.{first-failed, numbered-by, unless};
 ghost use Rattle.records.specs.Marks.{Mark};
 ghost use Rattle.records.specs.Entries.{handed-body, handed, answered};
-ghost use Rattle.records.specs.Fronts.{mark-in, body-checks, record-fault, parted, front, next-answer, handed-on, moved-to};
+ghost use Rattle.records.specs.Fronts.{mark-in, after-mark, body-checks, record-fault, parted, front, next-answer, handed-on, moved-to};
 use cells::Cell;
 use grids::Refusal;
 use readings::all_read;
@@ -35,7 +35,7 @@ pub struct Fault {
     pub at: usize,
 }
 
-/// Reads the body of a record whose first two bytes are its mark, and hands on what follows it.
+// Reads what follows a record's mark, and hands on what follows the record.
 fn read_body<'a, C: Cell>(
     input: &'a [u8],
     most: usize,
@@ -43,7 +43,7 @@ fn read_body<'a, C: Cell>(
 ) -> Result<(Body<'a>, &'a [u8]), Refusal>
     ensures { λ r. ⌜ ((m : Mark) → numbered-by (handed-body m) r ≡ unless (first-failed (body-checks (C·Cell .reading) most (number «bad_size») (now (input .entry)))) (parted (C·Cell .reading) m (now (input .entry)))) ⌝ }
 {
-    let [_, _, row_low, row_high, col_low, col_high, body @ ..] = input else {
+    let [row_low, row_high, col_low, col_high, body @ ..] = input else {
         return Err(Refusal::CutShort);
     };
     let rows = u16::from_le_bytes([*row_low, *row_high]) as usize;
@@ -65,19 +65,19 @@ fn read_body<'a, C: Cell>(
 
 /// Reads the record at the front of the input, and hands on what follows it.
 pub fn read_record<'a, C: Cell>(input: &'a [u8]) -> Result<(Record<'a>, &'a [u8]), Refusal>
-    ensures { λ r. ⌜ numbered-by handed r ≡ unless (record-fault (C·Cell .reading) (now (input .entry))) (parted (C·Cell .reading) (mark-in (now (input .entry))) (now (input .entry))) ⌝ }
+    ensures { λ r. ⌜ numbered-by handed r ≡ unless (record-fault (C·Cell .reading) (now (input .entry))) (parted (C·Cell .reading) (mark-in (now (input .entry))) (after-mark (now (input .entry)))) ⌝ }
 {
-    let [first, second, ..] = input else {
+    let [first, second, rest @ ..] = input else {
         return Err(Refusal::CutShort);
     };
     match (*first, *second) {
         (b'D', b'R') => {
-            let (body, rest) = read_body::<C>(input, 2048, Refusal::DraftSize)?;
-            Ok((Record::Draft(body), rest))
+            let (body, next) = read_body::<C>(rest, 2048, Refusal::DraftSize)?;
+            Ok((Record::Draft(body), next))
         }
         (b'T', b'L') => {
-            let (body, rest) = read_body::<C>(input, 32, Refusal::TileSize)?;
-            Ok((Record::Tile(body), rest))
+            let (body, next) = read_body::<C>(rest, 32, Refusal::TileSize)?;
+            Ok((Record::Tile(body), next))
         }
         _ => Err(Refusal::UnknownMark),
     }

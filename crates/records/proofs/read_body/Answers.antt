@@ -14,9 +14,9 @@ pub returns-then-not-all-read : need.returns-then-not-all-read
 returns-then-not-all-read g c =
     let k = g .C·Cell .reading in
     let bs = c .args .input .now in
-    let h : Header k (c .args .most) bs (take (length bs - 6) (drop 6 bs)) (c .from-le-bytes-rows .result) (c .from-le-bytes-cols .result) (c .width .result) = record {
+    let h : Header k (c .args .most) bs (take (length bs - 4) (drop 4 bs)) (c .from-le-bytes-rows .result) (c .from-le-bytes-cols .result) (c .width .result) = record {
       long = search needs;
-      body-is = take-rest bs 6;
+      body-is = take-rest bs 4;
       rows-is = c .from-le-bytes-rows .ensures;
       cols-is = c .from-le-bytes-cols .ensures;
       width-is = c .width .ensures;
@@ -29,12 +29,12 @@ pub returns : need.returns
 returns g c =
     let k = g .C·Cell .reading in
     let bs = c .args .input .now in
-    let body = take (length bs - 6) (drop 6 bs) in
+    let body = take (length bs - 4) (drop 4 bs) in
     let rows = c .from-le-bytes-rows .result in
     let cols = c .from-le-bytes-cols .result in
     let h : Header k (c .args .most) bs body rows cols (c .width .result) = record {
       long = search needs;
-      body-is = take-rest bs 6;
+      body-is = take-rest bs 4;
       rows-is = c .from-le-bytes-rows .ensures;
       cols-is = c .from-le-bytes-cols .ensures;
       width-is = c .width .ensures;
