@@ -10,7 +10,7 @@ use lib.ListN.{length, length-append}
 use Rattle.std.specs.Iters.{counting}
 use Rattle.std.specs.shelf.Lists.{joined}
 use Rattle.std.proofs.shelf.Counted.{map-counting-more, length-map-counting}
-use Rattle.std.proofs.shelf.Lists.{map-id, append-nil, append-assoc}
+use Rattle.std.proofs.shelf.Lists.{map-id, joined-more}
 use Rattle.grids.specs.Grids.{Grid}
 use Rattle.grids.specs.Places.{row-spots, spots, heights, widths, alignments}
 
@@ -23,12 +23,8 @@ length-row-spots n r = length-map-counting (λ c. record { row = r; col = c }) 0
 counting-more : (n : ℕ) → counting 0 (n + 1) ≡ counting 0 n ++ n ∷ []
 counting-more n = sym (map-id (counting 0 (n + 1))) ∙ (map-counting-more (λ x. x) 0 n n (omega arith) ∙ ap (λ xs. xs ++ n ∷ []) (map-id (counting 0 n)))
 
-joined-push : {X A : Type 0} (f : X → List A) (xs : List X) (x : X) → joined f (xs ++ x ∷ []) ≡ joined f xs ++ f x
-joined-push f [] x = append-nil (f x)
-joined-push f (y ∷ xs) x = ap (λ zs. f y ++ zs) (joined-push f xs x) ∙ sym (append-assoc (f y) (joined f xs) (f x))
-
 pub spots-more : (m n : ℕ) → spots (m + 1) n ≡ spots m n ++ row-spots n m
-spots-more m n = ap (joined (row-spots n)) (counting-more m) ∙ joined-push (row-spots n) (counting 0 m) m
+spots-more m n = ap (joined (row-spots n)) (counting-more m) ∙ sym (joined-more (row-spots n) [] (counting 0 m) m)
 
 pub length-spots : (m n : ℕ) → length (spots m n) ≡ m * n
 length-spots zero n = omega arith
