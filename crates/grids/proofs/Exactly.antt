@@ -107,11 +107,11 @@ exactly {C} k lawful g t v =
     let n : ℕ = widths g (laid t) in
     let p : Position → Bool = lies k g (laid t) in
     let sound : All (λ q. Place g (laid t) (q .row) (q .col)) (places k g (laid t)) =
-        all-both (λ q. (q .row < m) × (q .col < n)) (λ q. p q ≡ true) (λ q. Place g (laid t) (q .row) (q .col))
-          (λ q a e. record { row-fits = omega (arith, a .0); col-fits = omega (arith, a .1); agree = lies-tells k lawful g t v q e })
-          (kept-by p (spots m n)) (all-kept-by p (λ q. (q .row < m) × (q .col < n)) (spots m n) (spots-all m n)) (kept-by-passes p (spots m n)) in
+    all-both (λ q. (q .row < m) × (q .col < n)) (λ q. p q ≡ true) (λ q. Place g (laid t) (q .row) (q .col))
+    (λ q a e. record { row-fits = omega (arith, a .0); col-fits = omega (arith, a .1); agree = lies-tells k lawful g t v q e })
+    (kept-by p (spots m n)) (all-kept-by p (λ q. (q .row < m) × (q .col < n)) (spots m n) (spots-all m n)) (kept-by-passes p (spots m n)) in
     let complete : (r c : ℕ) → Place g (laid t) r c → Has (places k g (laid t)) (record { row = r; col = c }) =
-        λ r c h. has-kept p (spots m n) (record { row = r; col = c }) (has-spots m n r c (omega (arith, h .row-fits)) (omega (arith, h .col-fits))) (lies-made k lawful g t v (record { row = r; col = c }) (h .agree)) in
+    λ r c h. has-kept p (spots m n) (record { row = r; col = c }) (has-spots m n r c (omega (arith, h .row-fits)) (omega (arith, h .col-fits))) (lies-made k lawful g t v (record { row = r; col = c }) (h .agree)) in
     record {
       sound = sound;
       complete = complete;

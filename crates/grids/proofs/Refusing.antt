@@ -1,11 +1,13 @@
 -- An answer once it is known whether there is a refusal.
 use mathlib.Core.Path.{_≡_, refl, ap}
+use mathlib.Core.Bool.{Bool, true, false}
+use mathlib.Core.List.{List, _∷_}
 use Prim.Native.Nat.{ℕ}
 use native.Mathlib.Omega.{arith}
 use Rattle.std.specs.declared.option.Option.{Option}
 use Rattle.std.specs.declared.option.Option.the-variants.{Some, None}
 use Rattle.std.specs.declared.result.Result.the-variants.{Ok, Err}
-use Rattle.grids.specs.Refusals.{unless, kept-or}
+use Rattle.grids.specs.Refusals.{first-failed, unless, kept-or}
 
 module _ {X : Type 0} (o : Option ℕ) where
   pub unless-none : (x y : X) → o ≡ None → x ≡ y → Ok x ≡ unless o y
@@ -16,6 +18,11 @@ module _ {X : Type 0} (o : Option ℕ) where
 
   pub kept-or-none : (was new z : X) → o ≡ None → z ≡ new → z ≡ kept-or o was new
   kept-or-none was new z e f = rw e f
+
+-- where no check fails, the first passes, and none of the others fails
+pub passed : (b : Bool) (n : ℕ) (others : List (Bool × ℕ)) → first-failed ((b, n) ∷ others) ≡ None → (b ≡ true) × (first-failed others ≡ None)
+passed true n others h = (refl, h)
+passed false n others h = let z : _≡_ {A = ℕ} 0 1 = cc in absurd (omega arith)
 
 -- what an answer tells of the refusal
 pub unless-ok : {X : Type 0} (o : Option ℕ) (x y : X) → Ok y ≡ unless o x → (o ≡ None) × (y ≡ x)

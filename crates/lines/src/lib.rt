@@ -11,7 +11,11 @@ use std::fmt;
 #[derive(Clone, Copy, PartialEq, Eq, Debug)]
 pub enum Line {
     /// A place of the tile with a number.
-    Place { tile: usize, row: usize, col: usize },
+    Place {
+        tile: usize,
+        row: usize,
+        col: usize,
+    },
     /// How many places the tile has, and how many looks finding them took.
     Tile {
         tile: usize,
@@ -25,7 +29,10 @@ pub enum Line {
         tiles: usize,
     },
     /// A fault of the file, and the byte where its record begins.
-    Fault { number: u8, at: usize },
+    Fault {
+        number: u8,
+        at: usize,
+    },
     /// The input is too long.
     TooLong,
 }

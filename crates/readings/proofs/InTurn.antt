@@ -10,7 +10,7 @@ use Rattle.std.specs.declared.option.Option.{Option}
 use Rattle.std.specs.declared.option.Option.the-variants.{Some, None}
 use Rattle.std.specs.Options.{isSome, valueOr}
 use Rattle.std.specs.shelf.Maps.{nth}
-use Rattle.std.proofs.shelf.Lists.{length-take, drop-drop}
+use Rattle.std.proofs.shelf.Lists.{length-take, drop-drop, take-take, drop-take}
 use Rattle.std.proofs.shelf.Tests.{both-ways}
 use Rattle.cells.specs.Readings.{Reading, Readable}
 use Rattle.grids.specs.Listed.{listed, filled}
@@ -52,7 +52,6 @@ module _ {C : Type 0} (k : Reading C) (readable : Readable k) where
   none-short bs None e l = refl
   none-short bs (Some x) e l = absurd (omega (arith, readable .exact (take (k .width) bs) x e, length-take (k .width) bs))
 
-
 module _ {C : Type 0} (k : Reading C) where
   -- what a part of w bytes reads as, where w is the kind's width
   pub read-part : (w : ℕ) (rest part : List ℕ) (o : Option C) → w ≡ k .width → part ≡ take w rest → o ≡ k .reads part → k .reads (take (k .width) rest) ≡ o
@@ -74,7 +73,7 @@ module _ {C : Type 0} (k : Reading C) where
       subst (Checked n bs (i + 1)) (sym (d ∙ ap (λ m. drop m rest) e)) (record { left = c .left ∙ (ap (λ m. isSome (cells-read k m rest)) (next n i h) ∙ onto-some (k .reads (take (k .width) rest)) (cells-read k (n - (i + 1)) (drop (k .width) rest)) y) })
 
   pub checked-stop : (n : ℕ) (bs : List ℕ) (i : ℕ) (rest : List ℕ) → i < n → isSome (k .reads (take (k .width) rest)) ≡ false → Checked n bs i rest → false ≡ isSome (cells-read k n bs)
-  checked-stop n bs i rest h y c = sym ( c .left ∙ (ap (λ m. isSome (cells-read k m rest)) (next n i h) ∙ onto-none (k .reads (take (k .width) rest)) (cells-read k (n - (i + 1)) (drop (k .width) rest)) y))
+  checked-stop n bs i rest h y c = sym (c .left ∙ (ap (λ m. isSome (cells-read k m rest)) (next n i h) ∙ onto-none (k .reads (take (k .width) rest)) (cells-read k (n - (i + 1)) (drop (k .width) rest)) y))
 
   pub checked-all : (n : ℕ) (bs : List ℕ) (i : ℕ) (rest : List ℕ) → n ≤ i → Checked n bs i rest → true ≡ isSome (cells-read k n bs)
   checked-all n bs i rest h c = let e : n - i ≡ 0 = omega arith in sym (c .left ∙ ap (λ m. isSome (cells-read k m rest)) e)
@@ -131,3 +130,14 @@ module _ {C : Type 0} (k : Reading C) where
       let o = k .reads (take (k .width) bs) in
       let p = cells-read k n (drop (k .width) bs) in
       later o p i h ∙ (nth-cells n (drop (k .width) bs) i (onto-parts o p h .1) (omega arith) ∙ ap (λ ys. k .reads (take (k .width) ys)) (drop-drop (i * k .width) (k .width) bs ∙ ap (λ m. drop m bs) (omega (arith, suc-mul i (k .width)))))
+
+  -- the bytes after the cells do not matter
+  pub cells-read-take : (n : ℕ) (bs : List ℕ) → cells-read k n (take (n * k .width) bs) ≡ cells-read k n bs
+  cells-read-take zero bs = refl
+  cells-read-take (suc n) bs =
+      let w = k .width in
+      let e : suc n * w ≡ w + n * w = omega (arith, suc-mul n w) in
+      let f : take w (take (suc n * w) bs) ≡ take w bs = take-take w (suc n * w) bs (omega (arith, e)) in
+      let d : drop w (take (suc n * w) bs) ≡ take (n * w) (drop w bs) = ap (λ m. drop w (take m bs)) e ∙ drop-take w (n * w) bs in
+      ap (λ x. onto (k .reads x) (cells-read k n (drop w (take (suc n * w) bs)))) f
+      ∙ ap (λ ys. onto (k .reads (take w bs)) ys) (ap (cells-read k n) d ∙ cells-read-take n (drop w bs))

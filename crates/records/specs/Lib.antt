@@ -2,3 +2,4 @@ pub mod Marks
 pub mod Entries
 pub mod Fronts
 pub mod Files
+pub mod Sound

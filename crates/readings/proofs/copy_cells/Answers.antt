@@ -23,7 +23,7 @@ loop-i-again g c =
     let r = read-part k (c .width-width .result) (c .loop-i .rest .now) (c .split-at .result .0 .now) (c .read .result) (c .width-width .ensures) (c .split-at .ensures .front) (c .read .ensures) in
     let y = copied-reads k _ _ _ _ (c .loop-i .rest .now) _ (c .loop-i-test .taken) (c .loop-i .inv) in
     elim (c .match-read .came) [
-      in-Some w ↦ subst (Copied k _ _ _ _ _) (sym (w .cells-is)) (copied-more k _ _ _ _ (c .width-width .result) (c .loop-i .rest .now) (c .split-at .result .1 .now) _ (w .in-Some .x) (c .loop-i-test .taken) (c .width-width .ensures) (c .split-at .ensures .back) (r ∙ w .in-Some .is) (c .loop-i .inv))
+      | in-Some w ↦ subst (Copied k _ _ _ _ _) (sym (w .cells-is)) (copied-more k _ _ _ _ (c .width-width .result) (c .loop-i .rest .now) (c .split-at .result .1 .now) _ (w .in-Some .x) (c .loop-i-test .taken) (c .width-width .ensures) (c .split-at .ensures .back) (r ∙ w .in-Some .is) (c .loop-i .inv))
       | in-rest w ↦ absurd (both-ways _ (ap isSome (r ∙ w .in-rest .is)) y)
     ]
 

@@ -42,5 +42,5 @@ returns g c =
       whole = c .if-body-size .left;
     } in
     λ m. unless-none _ _ _ (body-passes k (c .args .most) (number (c .args .bad-size)) bs body rows cols (c .width .result) h (sym (c .if-not-all-read .ensures tt)))
-        (ap (λ e. (e, c .split-at .result .1 .now)) (entry-is k (c .args .most) 0 bs body rows cols (c .width .result) h m (c .split-at .result .0 .now) (c .split-at .ensures .front))
-        ∙ ap (λ ys. (entry-in k m bs, ys)) (rest-is k (c .args .most) 0 bs body rows cols (c .width .result) h (c .split-at .result .1 .now) (c .split-at .ensures .back)))
+    (ap (λ e. (e, c .split-at .result .1 .now)) (entry-is k (c .args .most) 0 bs body rows cols (c .width .result) h m (c .split-at .result .0 .now) (c .split-at .ensures .front))
+    ∙ ap (λ ys. (entry-in k m bs, ys)) (rest-is k (c .args .most) 0 bs body rows cols (c .width .result) h (c .split-at .result .1 .now) (c .split-at .ensures .back)))

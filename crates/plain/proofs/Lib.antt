@@ -1,0 +1,4 @@
+pub mod Tested
+pub mod Compared
+pub mod Progressed
+pub mod Answered
