@@ -32,3 +32,7 @@ unless-ok (Some n) x y h = let z : _≡_ {A = ℕ} 0 1 = cc in absurd (omega ari
 pub unless-err : {X : Type 0} (o : Option ℕ) (x : X) (n : ℕ) → Err n ≡ unless o x → o ≡ Some n
 unless-err None x n h = let z : _≡_ {A = ℕ} 0 1 = cc in absurd (omega arith)
 unless-err (Some m) x n h = let e : m ≡ n = cc in ap Some e
+
+-- where there is no refusal, none is answered
+pub not-refused : {X : Type 0} (o : Option ℕ) (x : X) (n : ℕ) → o ≡ None → Err n ≡ unless o x → ⊥
+not-refused o x n e h = let f = unless-err o x n h in let z : _≡_ {A = ℕ} 0 1 = cc in omega arith

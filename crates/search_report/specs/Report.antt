@@ -29,6 +29,12 @@ abbrev pub fault-lines : Option FaultAt → List Line
 fault-lines None = []
 fault-lines (Some f) = Fault (f .number) (f .at) ∷ []
 
+-- what a record adds to the tile records before the next, by its mark
+abbrev pub tiles-at : List Entry → Entry → Mark → List Entry
+tiles-at ts e draft = ts
+tiles-at ts e tile-mark = ts ++ e ∷ []
+tiles-at ts e unknown = ts
+
 module _ {C : Type 0} where
   -- the cells of a record
   abbrev pub entry-cells : Reading C → Entry → List C
@@ -55,16 +61,11 @@ module _ {C : Type 0} where
   abbrev pub draft-lines : Kind C → Reading C → Rule C → List Entry → Entry → List Line
   draft-lines k r rule ts e = tiles-lines k rule (entry-grid r e) 0 (map (entry-tile r) ts) ++ (Draft (e .rows) (e .cols) (length ts) ∷ [])
 
-  -- what a record adds to the lines, and to the tile records before the next
+  -- what a record adds to the lines, by its mark
   abbrev pub lines-at : Kind C → Reading C → Rule C → List Entry → Entry → Mark → List Line
   lines-at k r rule ts e draft = draft-lines k r rule ts e
   lines-at k r rule ts e tile-mark = []
   lines-at k r rule ts e unknown = []
-
-  abbrev pub tiles-at : List Entry → Entry → Mark → List Entry
-  tiles-at ts e draft = ts
-  tiles-at ts e tile-mark = ts ++ e ∷ []
-  tiles-at ts e unknown = ts
 
   -- the lines of records that follow the tile records ts
   abbrev pub entries-lines : Kind C → Reading C → Rule C → List Entry → List Entry → List Line

@@ -1,8 +1,19 @@
 //! What the program lookfor answers: bytes in, lines out, for every kind of cells and every engine.
 ghost use mathlib.Core.Path.{_≡_};
+ghost use mathlib.Core.List.{[], _∷_, _++_, map};
+ghost use Prim.Native.Nat.{_*_, _≤_};
+ghost use lib.ListN.{length, take};
 ghost use Rattle.std.specs.Of.Vec.{vec-items};
 ghost use Rattle.std.specs.Vec.{made};
-ghost use Rattle.search_report.specs.Report.{report};
+ghost use Rattle.std.specs.shelf.Lists.{All};
+ghost use Rattle.grids.specs.Grids.{laid};
+ghost use Rattle.grids.specs.Places.{places};
+ghost use Rattle.engine.specs.Finding.{finding};
+ghost use Rattle.records.specs.Marks.{draft as draft-mark, tile as tile-mark};
+ghost use Rattle.records.specs.Entries.{entry-of};
+ghost use Rattle.records.specs.Sound.{Sound};
+ghost use Rattle.lines.specs.declared.Line.the-variants.{Tile};
+ghost use Rattle.search_report.specs.Report.{report, place-line, entry-tile, tiles-lines, draft-lines};
 use cells::Cell;
 use drafts::Draft;
 use drafts::OverBytes;
@@ -22,12 +33,14 @@ use sheets::ByteSheetOver;
 use std::alloc::AllocError;
 use std::alloc::Global;
 
-/// Searches each draft of a record file for each tile before it.
+/// Searches each draft of a record file for each tile that stands before it in the file.
 pub fn search_report<C: Cell + Clone + Default, E: Engine<C>>(
     heap: Global,
     engine: &E,
     input: &[u8],
-) -> Result<Vec<Line>, AllocError> {
+) -> Result<Vec<Line>, AllocError>
+    ensures { λ r. ⌜ made r (λ v. vec-items v ≡ report (C·Cell .kind) (C·Cell .reading) (E·Engine .rule) (now (input .entry))) ⌝ }
+{
     let mut lines = Vec::new(heap);
     if input.len() > 65535 {
         lines.push(Line::TooLong)?;
@@ -61,6 +74,7 @@ pub fn search_report<C: Cell + Clone + Default, E: Engine<C>>(
     }
 }
 
+// Searches a draft of the file for each of some tiles, and adds the lines of it.
 fn search_draft<C: Cell, E: Engine<C>>(
     heap: Global,
     engine: &E,
@@ -69,16 +83,24 @@ fn search_draft<C: Cell, E: Engine<C>>(
     work: &mut [u32],
     cells: &mut [C],
     lines: &mut Vec<Line>,
-) -> Result<(), AllocError> {
+) -> Result<(), AllocError>
+    requires sound { ⌜ Sound (C·Cell .reading) 2048 (entry-of draft-mark (now body)) ⌝ }
+    requires tiles { ⌜ All (λ b. Sound (C·Cell .reading) 32 (entry-of tile-mark b)) (now tiles) ⌝ }
+    requires room { ⌜ (12288 ≤ length (now work)) × (1024 ≤ length (now cells)) ⌝ }
+    ensures { λ r. ⌜ made r (λ _. vec-items (now (lines .exit)) ≡ vec-items (now (lines .entry)) ++ draft-lines (C·Cell .kind) (C·Cell .reading) (E·Engine .rule) (map (entry-of tile-mark) (now (tiles .entry))) (entry-of draft-mark (now (body .entry)))) ⌝ }
+{
     let made: Result<ByteSheet<C>, Refusal> = ByteSheetOver::over(body.rows, body.cols, body.cells);
-    let Ok(mut sheet) = made else {
-        return Ok(());
-    };
+    let Ok(mut sheet) = made else { unreachable() };
     let mut list = vec![in heap; Position { row: 0, col: 0 }; body.rows * body.cols]?;
-    for (n, tile) in tiles.iter().enumerate() {
-        let found = find_tile(engine, &mut sheet, tile, work, cells, list.as_mut_slice());
-        push_tile(n, found, list.as_slice(), lines)?;
-    }
+    search_tiles(
+        engine,
+        &mut sheet,
+        tiles,
+        work,
+        cells,
+        list.as_mut_slice(),
+        lines,
+    )?;
     lines.push(Line::Draft {
         rows: body.rows,
         cols: body.cols,
@@ -87,6 +109,29 @@ fn search_draft<C: Cell, E: Engine<C>>(
     Ok(())
 }
 
+// Searches a draft for each of some tiles, and adds their lines; the list has room for all places.
+fn search_tiles<C: Cell, D: Draft<Cell = C>, E: Engine<C>>(
+    engine: &E,
+    draft: &mut D,
+    tiles: &[Body<'_>],
+    work: &mut [u32],
+    cells: &mut [C],
+    list: &mut [Position],
+    lines: &mut Vec<Line>,
+) -> Result<(), AllocError>
+    requires tiles { ⌜ All (λ b. Sound (C·Cell .reading) 32 (entry-of tile-mark b)) (now tiles) ⌝ }
+    requires room { ⌜ (12288 ≤ length (now work)) × (1024 ≤ length (now cells)) ⌝ }
+    requires long { ⌜ D·Draft .shows (now draft) .grid .rows * D·Draft .shows (now draft) .grid .cols ≤ length (now list) ⌝ }
+    ensures { λ r. ⌜ made r (λ _. vec-items (now (lines .exit)) ≡ vec-items (now (lines .entry)) ++ tiles-lines (C·Cell .kind) (E·Engine .rule) (D·Draft .shows (now (draft .entry)) .grid) 0 (map (entry-tile (C·Cell .reading)) (map (entry-of tile-mark) (now (tiles .entry))))) ⌝ }
+{
+    for (n, tile) in tiles.iter().enumerate() {
+        let Found { places, looks } = find_tile(engine, draft, tile, work, cells, list);
+        push_tile(n, &list[0..places], looks, lines)?;
+    }
+    Ok(())
+}
+
+// Finds a tile of the file in a draft; the list has room for all places.
 fn find_tile<C: Cell, D: Draft<Cell = C>, E: Engine<C>>(
     engine: &E,
     draft: &mut D,
@@ -94,27 +139,40 @@ fn find_tile<C: Cell, D: Draft<Cell = C>, E: Engine<C>>(
     work: &mut [u32],
     cells: &mut [C],
     list: &mut [Position],
-) -> Found {
+) -> Found
+    requires sound { ⌜ Sound (C·Cell .reading) 32 (entry-of tile-mark (now body)) ⌝ }
+    requires room { ⌜ (12288 ≤ length (now work)) × (1024 ≤ length (now cells)) ⌝ }
+    requires long { ⌜ D·Draft .shows (now draft) .grid .rows * D·Draft .shows (now draft) .grid .cols ≤ length (now list) ⌝ }
+    ensures answer { λ f. ⌜ f ≡ finding (C·Cell .kind) (E·Engine .rule) (D·Draft .shows (now (draft .entry)) .grid) (laid (entry-tile (C·Cell .reading) (entry-of tile-mark (now (body .entry))))) ⌝ }
+    ensures listing { λ f. ⌜ take (f .places) (now (list .exit)) ≡ places (C·Cell .kind) (D·Draft .shows (now (draft .entry)) .grid) (laid (entry-tile (C·Cell .reading) (entry-of tile-mark (now (body .entry))))) ⌝ }
+    ensures few { λ f. ⌜ f .places ≤ length (now (list .exit)) ⌝ }
+    ensures same { λ _. ⌜ D·Draft .shows (now (draft .exit)) .grid ≡ D·Draft .shows (now (draft .entry)) .grid ⌝ }
+{
     let count = body.rows * body.cols;
-    let _ = read_cells(count, body.cells, cells);
+    let Ok(()) = read_cells(count, body.cells, cells) else {
+        unreachable()
+    };
     let tile = TileView {
         rows: body.rows,
         cols: body.cols,
         cells: &cells[0..count],
     };
-    match engine.find(draft, &tile, work, list) {
-        Ok(found) => found,
-        Err(_) => unreachable(),
-    }
+    let Ok(found) = engine.find(draft, &tile, work, list) else {
+        unreachable()
+    };
+    found
 }
 
+// Adds the lines of a tile: each of its places, and then how many there are and the looks.
 fn push_tile(
     tile: usize,
-    found: Found,
-    list: &[Position],
+    places: &[Position],
+    looks: u64,
     lines: &mut Vec<Line>,
-) -> Result<(), AllocError> {
-    for place in &list[0..found.places] {
+) -> Result<(), AllocError>
+    ensures { λ r. ⌜ made r (λ _. vec-items (now (lines .exit)) ≡ vec-items (now (lines .entry)) ++ (map (place-line tile) (now (places .entry)) ++ (Tile tile (length (now (places .entry))) looks ∷ []))) ⌝ }
+{
+    for place in places {
         lines.push(Line::Place {
             tile,
             row: place.row,
@@ -123,8 +181,8 @@ fn push_tile(
     }
     lines.push(Line::Tile {
         tile,
-        places: found.places,
-        looks: found.looks,
+        places: places.len(),
+        looks,
     })?;
     Ok(())
 }
