@@ -52,8 +52,10 @@ pub record Reached {C : Type 0} (k : Kind C) (r : Reading C) (rule : Rule C) (bs
   pub sound : All (λ b. Sound r 32 (entry-of tile-mark b)) ts
 
 module _ {C : Type 0} (k : Kind C) (r : Reading C) (rule : Rule C) (bs : List ℕ) where
-  pub reached-none : Reached k r rule bs [] 0 bs []
-  reached-none = record { most = suc (length bs); enough = omega arith; left = refl; sound = tt }
+  pub reached-none : (ts : List Body) (at : ℕ) (rest : List ℕ) (lines : List Line) → ts ≡ [] → at ≡ 0 → rest ≡ bs → lines ≡ [] → Reached k r rule bs ts at rest lines
+  reached-none ts at rest lines t a e l =
+      let start : Reached k r rule bs [] 0 bs [] = record { most = suc (length bs); enough = omega arith; left = refl; sound = tt } in
+      subst (Reached k r rule bs ts at rest) (sym l) (subst (λ u. Reached k r rule bs ts at u []) (sym e) (subst (λ u. Reached k r rule bs ts u bs []) (sym a) (subst (λ u. Reached k r rule bs u 0 bs []) (sym t) start)))
 
   -- the file from the bytes rest on, by what stands there
   opens : (n at : ℕ) (rest : List ℕ) (f : Front) → length rest < n → front r rest ≡ f → (m : ℕ) × (n ≡ suc m) × (file-from r n at rest ≡ filed at f (λ i. file-from r m (at + i) (drop i rest)))
@@ -76,6 +78,13 @@ module _ {C : Type 0} (k : Kind C) (r : Reading C) (rule : Rule C) (bs : List �
     pub record-took : (m : ℕ) × (front r rest ≡ whole e m) × Took r rest e m
     record-took = let f = at-record at (front r rest) e h in (f .0, f .1, took r rest e (f .0) (f .1))
 
+    -- each record makes what is left shorter
+    pub shrinks : (after : List ℕ) → after ≡ handed-on rest (front r rest) → length after < length rest
+    shrinks after q =
+        let f = record-took in
+        let y : after ≡ drop (f .0) rest = q ∙ ap (handed-on rest) (f .1) in
+        omega (arith, ap length y, length-drop (f .0) rest, f .2 .some, f .2 .within)
+
     pub reached-more : (us : List Body) (to : ℕ) (after : List ℕ) (new : List Line) → to ≡ moved-to at (front r rest) → after ≡ handed-on rest (front r rest) → map (entry-of tile-mark) us ≡ tiles-at (map (entry-of tile-mark) ts) e (e .mark) → new ≡ lines ++ lines-at k r rule (map (entry-of tile-mark) ts) e (e .mark) → All (λ b. Sound r 32 (entry-of tile-mark b)) us → Reached k r rule bs us to after new
     reached-more us to after new p q t l s =
         let es = map (entry-of tile-mark) ts in
@@ -89,10 +98,14 @@ module _ {C : Type 0} (k : Kind C) (r : Reading C) (rule : Rule C) (bs : List �
         let tail = fault-lines (file-from r n (at + m) (drop m rest) .fault) in
         let here = lines-at k r rule es e (e .mark) in
         let z : file-lines k r rule [] (file r bs) ≡ new ++ file-lines k r rule (tiles-at es e (e .mark)) (file-from r n (at + m) (drop m rest)) =
-            c .left ∙ (ap (λ u. lines ++ file-lines k r rule es u) (o .2) ∙ (ap (λ u. lines ++ u) (append-assoc here body tail) ∙ (sym (append-assoc lines here (body ++ tail)) ∙ ap (λ u. u ++ (body ++ tail)) (sym l)))) in
+        c .left ∙ (ap (λ u. lines ++ file-lines k r rule es u) (o .2) ∙ (ap (λ u. lines ++ u) (append-assoc here body tail) ∙ (sym (append-assoc lines here (body ++ tail)) ∙ ap (λ u. u ++ (body ++ tail)) (sym l)))) in
         record {
           most = n;
           enough = omega (arith, c .enough, o .1, ap length y, length-drop m rest, f .2 .some, f .2 .within);
           left = z ∙ (ap (λ u. new ++ file-lines k r rule u (file-from r n (at + m) (drop m rest))) (sym t) ∙ (ap (λ u. new ++ file-lines k r rule (map (entry-of tile-mark) us) (file-from r n u (drop m rest))) (sym x) ∙ ap (λ u. new ++ file-lines k r rule (map (entry-of tile-mark) us) (file-from r n to u)) (sym y)));
           sound = s;
         }
+
+-- an input that is not too long
+pub report-short : {C : Type 0} (k : Kind C) (r : Reading C) (rule : Rule C) (bs : List ℕ) → length bs ≤ 65535 → file-lines k r rule [] (file r bs) ≡ report k r rule bs
+report-short k r rule bs h = sym (cond-false (ltb 65535 (length bs)) _ (file-lines k r rule [] (file r bs)) (le-ltb 65535 (length bs) h))

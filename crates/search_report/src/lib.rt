@@ -9,11 +9,13 @@ ghost use Rattle.std.specs.shelf.Lists.{All};
 ghost use Rattle.grids.specs.Grids.{laid};
 ghost use Rattle.grids.specs.Places.{places};
 ghost use Rattle.engine.specs.Finding.{finding};
-ghost use Rattle.records.specs.Marks.{draft as draft-mark, tile as tile-mark};
-ghost use Rattle.records.specs.Entries.{entry-of};
+ghost use Rattle.records.specs.Marks.{draft as draft-mark, tile as tile-mark, limit};
+ghost use Rattle.records.specs.Entries.{entry-of, entry};
+ghost use Rattle.records.specs.Files.{file};
 ghost use Rattle.records.specs.Sound.{Sound};
 ghost use Rattle.lines.specs.declared.Line.the-variants.{Tile};
-ghost use Rattle.search_report.specs.Report.{report, place-line, entry-tile, tiles-lines, draft-lines};
+ghost use Rattle.search_report.specs.Report.{report, place-line, entry-tile, tiles-lines, draft-lines, file-lines};
+ghost use Rattle.search_report.specs.Progress.{Reported};
 use cells::Cell;
 use drafts::Draft;
 use drafts::OverBytes;
@@ -48,21 +50,37 @@ pub fn search_report<C: Cell + Clone + Default, E: Engine<C>>(
     }
     let mut work = vec![in heap; 0u32; 12288]?;
     let mut cells = vec![in heap; C::default(); 1024]?;
+    report_file(
+        heap,
+        engine,
+        input,
+        work.as_mut_slice(),
+        cells.as_mut_slice(),
+    )
+}
+
+// The lines of a file of any length.
+fn report_file<C: Cell, E: Engine<C>>(
+    heap: Global,
+    engine: &E,
+    input: &[u8],
+    work: &mut [u32],
+    cells: &mut [C],
+) -> Result<Vec<Line>, AllocError>
+    requires room { ⌜ (12288 ≤ length (now work)) × (1024 ≤ length (now cells)) ⌝ }
+    ensures { λ r. ⌜ made r (λ v. vec-items v ≡ file-lines (C·Cell .kind) (C·Cell .reading) (E·Engine .rule) [] (file (C·Cell .reading) (now (input .entry)))) ⌝ }
+{
+    let mut lines = Vec::new(heap);
     let mut tiles = Vec::new(heap);
     let mut reader = Reader::new(input);
     loop {
         match reader.next::<C>() {
-            Ok(Some(Record::Tile(body))) => tiles.push(body)?,
-            Ok(Some(Record::Draft(body))) => search_draft(
-                heap,
-                engine,
-                &body,
-                tiles.as_slice(),
-                work.as_mut_slice(),
-                cells.as_mut_slice(),
-                &mut lines,
-            )?,
-            Ok(None) => return Ok(lines),
+            Ok(next) => {
+                let Some(record) = next else {
+                    return Ok(lines);
+                };
+                report_record(heap, engine, record, work, cells, &mut tiles, &mut lines)?;
+            }
             Err(fault) => {
                 lines.push(Line::Fault {
                     number: fault.refusal.number(),
@@ -72,6 +90,30 @@ pub fn search_report<C: Cell + Clone + Default, E: Engine<C>>(
             }
         }
     }
+}
+
+// Keeps a tile for the drafts after it, or adds the lines of a draft.
+fn report_record<'a, C: Cell, E: Engine<C>>(
+    heap: Global,
+    engine: &E,
+    record: Record<'a>,
+    work: &mut [u32],
+    cells: &mut [C],
+    tiles: &mut Vec<Body<'a>>,
+    lines: &mut Vec<Line>,
+) -> Result<(), AllocError>
+    requires sound { ⌜ Sound (C·Cell .reading) (limit (entry «record» .mark)) (entry «record») ⌝ }
+    requires tiles { ⌜ All (λ b. Sound (C·Cell .reading) 32 (entry-of tile-mark b)) (vec-items (now tiles)) ⌝ }
+    requires room { ⌜ (12288 ≤ length (now work)) × (1024 ≤ length (now cells)) ⌝ }
+    ensures { λ r. ⌜ made r (λ _. Reported (C·Cell .kind) (C·Cell .reading) (E·Engine .rule) (entry («record» .entry)) (vec-items (now (tiles .entry))) (vec-items (now (tiles .exit))) (vec-items (now (lines .entry))) (vec-items (now (lines .exit)))) ⌝ }
+{
+    match record {
+        Record::Tile(body) => tiles.push(body)?,
+        Record::Draft(body) => {
+            search_draft(heap, engine, &body, tiles.as_slice(), work, cells, lines)?
+        }
+    }
+    Ok(())
 }
 
 // Searches a draft of the file for each of some tiles, and adds the lines of it.
