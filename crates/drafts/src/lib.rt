@@ -29,7 +29,7 @@ pub trait Draft {
     fn cols(&self) -> usize
         ensures { λ n. ⌜ n ≡ shows (now (self .entry)) .grid .cols ⌝ };
 
-    /// The cell at a place, and one look more; nothing, and no look, outside.
+    /// The cell at a position, and one look more; nothing, and no look, outside.
     fn look(&mut self, row: usize, col: usize) -> Option<Self::Cell>
         ensures cell { λ x. ⌜ x ≡ shows (now (self .entry)) .grid .at row col ⌝ }
         ensures same { λ _. ⌜ shows (now (self .exit)) .grid ≡ shows (now (self .entry)) .grid ⌝ }
@@ -38,6 +38,7 @@ pub trait Draft {
 
 /// Drafts that are made over lent cells, row after row.
 pub trait OverCells<'a, C: Cell>: Draft<Cell = C> {
+    /// Makes the draft, or refuses: size, then length.
     fn over(rows: usize, cols: usize, cells: &'a [C]) -> Result<Self, Refusal>
         ensures shows { λ r. ⌜ numbered-by (λ s. Self·Draft .shows s .grid) r ≡ unless (sheet-refusal rows cols (length (now (cells .entry)))) (sheet rows cols (now (cells .entry))) ⌝ }
         ensures new { λ r. ⌜ numbered-by (λ s. Self·Draft .tally s .value) r ≡ unless (sheet-refusal rows cols (length (now (cells .entry)))) 0 ⌝ };
@@ -45,6 +46,7 @@ pub trait OverCells<'a, C: Cell>: Draft<Cell = C> {
 
 /// Drafts that are made over lent file bytes, read by the kind.
 pub trait OverBytes<'a, C: Cell>: Draft<Cell = C> {
+    /// Makes the draft, or refuses: size, length, then a cell whose bytes read as none.
     fn over(rows: usize, cols: usize, bytes: &'a [u8]) -> Result<Self, Refusal>
         ensures shows { λ r. ⌜ numbered-by (λ s. Self·Draft .shows s .grid) r ≡ unless (bytes-refusal (C·Cell .reading) rows cols (now (bytes .entry))) (sheet rows cols (cells-of (C·Cell .reading) (rows * cols) (now (bytes .entry)))) ⌝ }
         ensures new { λ r. ⌜ numbered-by (λ s. Self·Draft .tally s .value) r ≡ unless (bytes-refusal (C·Cell .reading) rows cols (now (bytes .entry))) 0 ⌝ };

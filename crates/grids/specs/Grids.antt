@@ -47,7 +47,7 @@ module _ {C : Type 0} where
   abbrev pub tile : ℕ → ℕ → List C → Tile C
   tile rows cols cells = record { rows = rows; cols = cols; cells = cells }
 
-  -- a tile, or a sheet, laid out as a grid: place (i, j) has cell number i * cols + j
+  -- a tile, or a sheet, laid out as a grid: position (i, j) has cell number i * cols + j
   abbrev pub laid : Tile C → Grid C
   laid t = record { rows = t .rows; cols = t .cols; at = λ i j. cond (ltb i (t .rows) && ltb j (t .cols)) (nth (t .cells) (i * t .cols + j)) None }
 

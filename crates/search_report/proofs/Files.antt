@@ -13,7 +13,7 @@ use Rattle.std.specs.declared.result.Result.the-variants.{Ok, Err}
 use Rattle.std.specs.shelf.Lists.{All}
 use Rattle.std.proofs.shelf.Elements.{all-push}
 use Rattle.std.proofs.shelf.Lists.{append-nil, map-push, length-drop}
-use Rattle.std.proofs.shelf.Tests.{cond-false, le-ltb}
+use Rattle.std.proofs.shelf.Tests.{cond-true, cond-false, lt-ltb, le-ltb}
 use Rattle.grids.specs.Kinds.{Kind}
 use Rattle.cells.specs.Readings.{Reading}
 use Rattle.engine.specs.Rules.{Rule}
@@ -25,7 +25,7 @@ use Rattle.records.specs.Files.{File, filed, file-from, file}
 use Rattle.records.specs.Sound.{Sound}
 use Rattle.records.proofs.Fronting.{Took, took}
 use Rattle.lines.specs.declared.Line.{Line}
-use Rattle.lines.specs.declared.Line.the-variants.{Fault}
+use Rattle.lines.specs.declared.Line.the-variants.{Fault, TooLong}
 use Rattle.search_report.specs.Report.{draft-lines, fault-lines, lines-at, tiles-at, entries-lines, file-lines, report}
 
 -- what a reader's answer tells of what stood before it
@@ -109,3 +109,7 @@ module _ {C : Type 0} (k : Kind C) (r : Reading C) (rule : Rule C) (bs : List �
 -- an input that is not too long
 pub report-short : {C : Type 0} (k : Kind C) (r : Reading C) (rule : Rule C) (bs : List ℕ) → length bs ≤ 65535 → file-lines k r rule [] (file r bs) ≡ report k r rule bs
 report-short k r rule bs h = sym (cond-false (ltb 65535 (length bs)) _ (file-lines k r rule [] (file r bs)) (le-ltb 65535 (length bs) h))
+
+-- one that is
+pub report-long : {C : Type 0} (k : Kind C) (r : Reading C) (rule : Rule C) (bs : List ℕ) → 65535 < length bs → TooLong ∷ [] ≡ report k r rule bs
+report-long k r rule bs h = sym (cond-true (ltb 65535 (length bs)) (TooLong ∷ []) _ (lt-ltb 65535 (length bs) h))

@@ -1,4 +1,5 @@
 -- The lines that a search of a record file answers. Assumes nothing.
+use mathlib.Core.Path.{_≡_}
 use mathlib.Core.Bool.{cond}
 use mathlib.Core.List.{List, [], _∷_, _++_, map}
 use Prim.Native.Nat.{ℕ, _+_, _*_}
@@ -8,8 +9,8 @@ use Rattle.std.specs.declared.option.Option.{Option}
 use Rattle.std.specs.declared.option.Option.the-variants.{Some, None}
 use Rattle.grids.specs.declared.Position.{Position}
 use Rattle.grids.specs.Kinds.{Kind}
-use Rattle.grids.specs.Grids.{Grid, Tile, tile, laid}
-use Rattle.grids.specs.Places.{places}
+use Rattle.grids.specs.Grids.{Grid, Tile, Valid, tile, laid}
+use Rattle.grids.specs.Places.{places, Exact}
 use Rattle.cells.specs.Readings.{Reading}
 use Rattle.readings.specs.CellLists.{cells-of}
 use Rattle.drafts.specs.Making.{sheet}
@@ -79,3 +80,8 @@ module _ {C : Type 0} where
   -- the lines of an input: over 65,535 bytes it is too long
   abbrev pub report : Kind C → Reading C → Rule C → List ℕ → List Line
   report k r rule bs = cond (ltb 65535 (length bs)) (TooLong ∷ []) (file-lines k r rule [] (file r bs))
+
+-- the lines are the report of the input, and the places in it are exactly the places of each tile, each once, in reading order
+pub record Answers {C : Type 0} (k : Kind C) (r : Reading C) (rule : Rule C) (bs : List ℕ) (ls : List Line) : Type 0 where
+  pub lines : ls ≡ report k r rule bs
+  pub exact : (g : Grid C) (t : Tile C) → Valid t → Exact k g t

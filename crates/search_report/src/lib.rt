@@ -13,8 +13,8 @@ ghost use Rattle.records.specs.Marks.{draft as draft-mark, tile as tile-mark, l
 ghost use Rattle.records.specs.Entries.{entry-of, entry};
 ghost use Rattle.records.specs.Files.{file};
 ghost use Rattle.records.specs.Sound.{Sound};
-ghost use Rattle.lines.specs.declared.Line.the-variants.{Tile};
-ghost use Rattle.search_report.specs.Report.{report, place-line, entry-tile, tiles-lines, draft-lines, file-lines};
+ghost use Rattle.lines.specs.declared.Line.the-variants.{Tile as TileLine};
+ghost use Rattle.search_report.specs.Report.{Answers, place-line, entry-tile, tiles-lines, draft-lines, file-lines};
 ghost use Rattle.search_report.specs.Progress.{Reported};
 use cells::Cell;
 use drafts::Draft;
@@ -35,13 +35,14 @@ use sheets::ByteSheetOver;
 use std::alloc::AllocError;
 use std::alloc::Global;
 
-/// Searches each draft of a record file for each tile that stands before it in the file.
+/// Searches each draft of a record file for each tile that stands before it in the file. What is
+/// reported of a tile are exactly its places, each once, in reading order.
 pub fn search_report<C: Cell + Clone + Default, E: Engine<C>>(
     heap: Global,
     engine: &E,
     input: &[u8],
 ) -> Result<Vec<Line>, AllocError>
-    ensures { λ r. ⌜ made r (λ v. vec-items v ≡ report (C·Cell .kind) (C·Cell .reading) (E·Engine .rule) (now (input .entry))) ⌝ }
+    ensures { λ r. ⌜ made r (λ v. Answers (C·Cell .kind) (C·Cell .reading) (E·Engine .rule) (now (input .entry)) (vec-items v)) ⌝ }
 {
     let mut lines = Vec::new(heap);
     if input.len() > 65535 {
@@ -212,7 +213,7 @@ fn push_tile(
     looks: u64,
     lines: &mut Vec<Line>,
 ) -> Result<(), AllocError>
-    ensures { λ r. ⌜ made r (λ _. vec-items (now (lines .exit)) ≡ vec-items (now (lines .entry)) ++ (map (place-line tile) (now (places .entry)) ++ (Tile tile (length (now (places .entry))) looks ∷ []))) ⌝ }
+    ensures { λ r. ⌜ made r (λ _. vec-items (now (lines .exit)) ≡ vec-items (now (lines .entry)) ++ (map (place-line tile) (now (places .entry)) ++ (TileLine tile (length (now (places .entry))) looks ∷ []))) ⌝ }
 {
     for place in places {
         lines.push(Line::Place {
