@@ -62,7 +62,7 @@ impl Lift {
     pub fn bytes() -> usize
         ensures { λ n. ⌜ n ≡ 1 ⌝ }
     {
-        LiftCell::width()
+        LiftCell::BYTES
     }
 
     /// Whether two lifts are equal.

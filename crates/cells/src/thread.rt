@@ -55,7 +55,7 @@ impl Thread {
     pub fn bytes() -> usize
         ensures { λ n. ⌜ n ≡ 3 ⌝ }
     {
-        ThreadCell::width()
+        ThreadCell::BYTES
     }
 
     /// Whether two threads are equal.
