@@ -1,23 +1,24 @@
 //! Finds the tiles of a record file in its drafts: lookfor ENGINE KIND < FILE
 use cells::Lift;
+use cells::LiftCell;
+use cells::LiftDefault;
 use cells::Thread;
+use cells::ThreadCell;
+use cells::ThreadDefault;
 use lines::Line;
 use lines::render;
 use plain::Plain;
+use plain::PlainEngine;
 use search_report::search_report;
 use std::alloc::AllocError;
 use std::alloc::Global;
 use std::env;
 use std::error::AnyError;
 use std::io::Read;
-use cells::LiftCell;
-use cells::LiftDefault;
-use cells::ThreadCell;
-use cells::ThreadDefault;
-use plain::PlainEngine;
 
 // What the arguments can name.
-const USAGE: &str = "usage: lookfor ENGINE KIND, where ENGINE is plain and KIND is lifts or threads";
+const USAGE: &str =
+    "usage: lookfor ENGINE KIND, where ENGINE is plain and KIND is lifts or threads";
 
 // One byte more than an input may have, so that a longer one is seen to be too long.
 const MOST: u64 = 65536;
