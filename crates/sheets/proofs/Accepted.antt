@@ -15,19 +15,19 @@ use Rattle.grids.specs.Refusals.{between}
 use Rattle.cells.specs.Readings.{Reading}
 use Rattle.readings.specs.CellLists.{onto, cells-read}
 use Rattle.drafts.specs.Making.{draft-size, bytes-refusal}
-use Rattle.sheets.specs.Drawing.{Draft-size}
+use Rattle.sheets.specs.Drawing.{Drawable}
 
-sized : (rows cols : ℕ) → Draft-size rows cols → draft-size rows cols ≡ true
+sized : (rows cols : ℕ) → Drawable rows cols → draft-size rows cols ≡ true
 sized rows cols s =
     and-from (between 1 2048 rows) (between 1 2048 cols)
     (and-from (leb 1 rows) (leb rows 2048) (le-leb 1 rows (s .0)) (le-leb rows 2048 (s .1)))
     (and-from (leb 1 cols) (leb cols 2048) (le-leb 1 cols (s .2)) (le-leb cols 2048 (s .3)))
 
 -- there is a first cell
-pub some-cells : (rows cols : ℕ) → Draft-size rows cols → 1 ≤ rows * cols
+pub some-cells : (rows cols : ℕ) → Drawable rows cols → 1 ≤ rows * cols
 some-cells rows cols s = omega (arith, mul-le 1 1 rows cols (s .0) (s .2))
 
-module _ {C : Type 0} (k : Reading C) (rows cols : ℕ) (bs : List ℕ) (s : Draft-size rows cols) (l : length bs ≡ rows * cols * k .width) where
+module _ {C : Type 0} (k : Reading C) (rows cols : ℕ) (bs : List ℕ) (s : Drawable rows cols) (l : length bs ≡ rows * cols * k .width) where
   pub accepted : isSome (cells-read k (rows * cols) bs) ≡ true → bytes-refusal k rows cols bs ≡ None
   accepted r = rw (sized rows cols s, eq-eqb _ _ l, r) refl
 

@@ -2,7 +2,7 @@ ghost use mathlib.Core.Path.{_≡_};
 ghost use Prim.Native.Nat.{ℕ, _*_, _^_, _<_, _≤_};
 ghost use lib.ListN.{length};
 ghost use denote.Ref.{now};
-ghost use Rattle.sheets.specs.Drawing.{Draft-size, drawn-bytes};
+ghost use Rattle.sheets.specs.Drawing.{Drawable, drawn-bytes};
 use cells::Cell;
 use drafts::Draft;
 use drafts::OverBytes;
@@ -21,7 +21,7 @@ pub struct ByteSheet<'a, C> {
     width: usize,
     corner: C,
     tally: u64,
-    ghost sized: { Draft-size rows cols },
+    ghost sized: { Drawable rows cols },
     ghost narrow: { width ≤ 16 },
     ghost whole: { length (now bytes) ≡ rows * cols * width },
     ghost fits: { tally < 2 ^ 64 },

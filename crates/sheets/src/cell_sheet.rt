@@ -2,7 +2,7 @@ ghost use mathlib.Core.Path.{_≡_};
 ghost use Prim.Native.Nat.{ℕ, _*_, _^_, _<_};
 ghost use lib.ListN.{length};
 ghost use denote.Ref.{now};
-ghost use Rattle.sheets.specs.Drawing.{Draft-size, drawn-cells};
+ghost use Rattle.sheets.specs.Drawing.{Drawable, drawn-cells};
 use cells::Cell;
 use drafts::Draft;
 use drafts::OverCells;
@@ -15,7 +15,7 @@ pub struct CellSheet<'a, C> {
     rows: usize,
     cols: usize,
     tally: u64,
-    ghost sized: { Draft-size rows cols },
+    ghost sized: { Drawable rows cols },
     ghost whole: { length (now cells) ≡ rows * cols },
     ghost fits: { tally < 2 ^ 64 },
 }

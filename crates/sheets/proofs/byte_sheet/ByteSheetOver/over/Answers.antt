@@ -7,14 +7,14 @@ use Rattle.std.specs.declared.option.Option.the-variants.{None}
 use Rattle.std.proofs.shelf.Bits.{mul-le}
 use Rattle.grids.proofs.Refusing.{unless-none, unless-some}
 use Rattle.drafts.specs.Making.{sheet, bytes-refusal}
-use Rattle.sheets.specs.Drawing.{Draft-size, cell-at}
+use Rattle.sheets.specs.Drawing.{Drawable, cell-at}
 use Rattle.sheets.proofs.Accepted.{some-cells, accepted, unread, corner-none}
 use Rattle.sheets.proofs.CellParts.{parts-read, part-within}
 use Rattle.sheets.proofs.byte_sheet.ByteSheetOver.over.Needs as need
 
 pub part-read-end : need.part-read-end
 part-read-end g c =
-    let s : Draft-size (c .args .rows) (c .args .cols) = (omega arith, omega arith, omega arith, omega arith) in
+    let s : Drawable (c .args .rows) (c .args .cols) = (omega arith, omega arith, omega arith, omega arith) in
     let n = some-cells (c .args .rows) (c .args .cols) s in
     let h = part-within 0 (c .args .rows * c .args .cols) (c .width-width .result) n in
     search needs
@@ -23,7 +23,7 @@ pub returns-in-rest : need.returns-in-rest
 returns-in-rest g c =
     let k = g .C·Cell .reading in
     let bs = c .args .bytes .now in
-    let s : Draft-size (c .args .rows) (c .args .cols) = (omega arith, omega arith, omega arith, omega arith) in
+    let s : Drawable (c .args .rows) (c .args .cols) = (omega arith, omega arith, omega arith, omega arith) in
     let l : length bs ≡ c .args .rows * c .args .cols * k .width = c .if-bytes-rows .left ∙ ap (λ w. c .args .rows * c .args .cols * w) (c .width-width .ensures) in
     let e = unread k (c .args .rows) (c .args .cols) bs s l (corner-none k (c .args .rows * c .args .cols) (c .width-width .result) bs (c .read .result) (some-cells (c .args .rows) (c .args .cols) s) (c .width-width .ensures) (c .read .ensures) (c .in-rest .is)) in
     record { shows = unless-some _ _ _ e; new = unless-some _ _ _ e }
@@ -32,7 +32,7 @@ pub returns : need.returns
 returns g c =
     let k = g .C·Cell .reading in
     let bs = c .args .bytes .now in
-    let s : Draft-size (c .args .rows) (c .args .cols) = (omega arith, omega arith, omega arith, omega arith) in
+    let s : Drawable (c .args .rows) (c .args .cols) = (omega arith, omega arith, omega arith, omega arith) in
     let l : length bs ≡ c .args .rows * c .args .cols * k .width = c .if-bytes-rows .left ∙ ap (λ w. c .args .rows * c .args .cols * w) (c .width-width .ensures) in
     let r = sym (c .if-not-all-read .ensures tt) in
     let none : bytes-refusal k (c .args .rows) (c .args .cols) bs ≡ None = accepted k (c .args .rows) (c .args .cols) bs s l r in
