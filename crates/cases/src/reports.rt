@@ -8,10 +8,10 @@ use cells::LiftDefault;
 use cells::Thread;
 use cells::ThreadCell;
 use cells::ThreadDefault;
+use find_report::find_report;
 use lines::render;
 use plain::Plain;
 use plain::PlainEngine;
-use search_report::search_report;
 use std::alloc::Global;
 use std::test::*;
 
@@ -173,7 +173,7 @@ pub(crate) fn verify_print<C: Cell + Clone + Default>(
 ) -> Result<(), Fail> {
     let mut file = front.to_vec(heap)?;
     file.extend_from_slice(rest)?;
-    let lines = search_report::<C, Plain>(heap, &Plain, file.as_slice())?;
+    let lines = find_report::<C, Plain>(heap, &Plain, file.as_slice())?;
     let printed = render(heap, lines.as_slice())?;
     check_eq(printed.as_str(), text)
 }

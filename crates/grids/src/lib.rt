@@ -10,7 +10,7 @@ pub struct Position {
     pub col: usize,
 }
 
-/// What a search answers: how many places there are, and how often it looked at the draft.
+/// What find answers: how many places there are, and how often it looked at the draft.
 #[derive(Clone, Copy, PartialEq, Eq, Debug)]
 pub struct Found {
     pub places: usize,

@@ -22,7 +22,7 @@ pub enum Line {
         places: usize,
         looks: u64,
     },
-    /// The size of a draft, and in how many tiles it was searched for.
+    /// The size of a draft, and for how many tiles it was looked through.
     Draft {
         rows: usize,
         cols: usize,

@@ -5,11 +5,11 @@ use cells::LiftDefault;
 use cells::Thread;
 use cells::ThreadCell;
 use cells::ThreadDefault;
+use find_report::find_report;
 use lines::Line;
 use lines::render;
 use plain::Plain;
 use plain::PlainEngine;
-use search_report::search_report;
 use std::alloc::AllocError;
 use std::alloc::Global;
 use std::env;
@@ -44,8 +44,8 @@ fn chosen(args: &[String]) -> Option<Kind> {
 
 fn answer(heap: Global, kind: Kind, input: &[u8]) -> Result<Vec<Line>, AllocError> {
     match kind {
-        Kind::Lifts => search_report::<Lift, Plain>(heap, &Plain, input),
-        Kind::Threads => search_report::<Thread, Plain>(heap, &Plain, input),
+        Kind::Lifts => find_report::<Lift, Plain>(heap, &Plain, input),
+        Kind::Threads => find_report::<Thread, Plain>(heap, &Plain, input),
     }
 }
 

@@ -1,4 +1,4 @@
--- What a search needs, and what it has done so far. Only the contracts of private functions use these. Assumes nothing.
+-- What an engine needs, and what it has done so far. Only the contracts of private functions use these. Assumes nothing.
 use mathlib.Core.Path.{_≡_}
 use mathlib.Core.List.{List}
 use Prim.Native.Nat.{ℕ, _+_, _*_, _≤_}
@@ -13,12 +13,12 @@ use Rattle.grids.specs.Listed.{filled}
 use Rattle.drafts.specs.Tallies.{raised}
 use Rattle.plain.specs.Looks.{compared}
 
--- a grid and a tile that a search may begin with
+-- a grid and a tile that an engine may begin with
 pub record Ready {C : Type 0} (g : Grid C) (t : Tile C) : Type 0 where
   pub drawn : Drawn g
   pub valid : Valid t
 
--- what a search did at the spots qs: what it found went from a to b, its list from old to new, the tally from u to v
+-- what an engine did at the spots qs: what it found went from a to b, its list from old to new, the tally from u to v
 pub record Done {C : Type 0} (k : Kind C) (g t : Grid C) (qs : List Position) (a b : Found) (old new : List Position) (u v : ℕ) : Type 0 where
   pub places : b .places ≡ a .places + length (kept-by (lies k g t) qs)
   pub looks : b .looks ≡ a .looks + sumBy (compared k g t) qs

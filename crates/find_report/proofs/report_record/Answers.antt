@@ -9,11 +9,11 @@ use Rattle.records.specs.declared.Record.{Record}
 use Rattle.records.specs.Marks.{limit, tile as tile-mark}
 use Rattle.records.specs.Entries.{entry, entry-of}
 use Rattle.records.specs.Sound.{Sound}
-use Rattle.search_report.specs.Progress.{Reported}
-use Rattle.search_report.proofs.report_record.Needs as need
+use Rattle.find_report.specs.Progress.{Reported}
+use Rattle.find_report.proofs.report_record.Needs as need
 
-pub search-draft-requires : need.search-draft-requires
-search-draft-requires g c κs =
+pub report-draft-requires : need.report-draft-requires
+report-draft-requires g c κs =
     let r = g .C·Cell .reading in
     let P : Record → Type 0 = λ x. Sound r (limit (entry x .mark)) (entry x) in
     let Q : List Body → Type 0 = λ bs. All (λ b. Sound r 32 (entry-of tile-mark b)) bs in

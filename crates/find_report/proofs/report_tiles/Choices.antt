@@ -1,8 +1,8 @@
 use mathlib.Core.Path.{_≡_}
 use lib.ListN.{length}
 use Rattle.std.specs.Of.Vec.{vec-items}
-use Rattle.search_report.proofs.Tiles.{Searched}
-use Rattle.search_report.proofs.search_tiles.Given as given
+use Rattle.find_report.proofs.Tiles.{Searched}
+use Rattle.find_report.proofs.report_tiles.Given as given
 
 abbrev pub Inv-loop-n : given.InvT-loop-n
 Inv-loop-n g l =

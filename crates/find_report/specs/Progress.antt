@@ -10,7 +10,7 @@ use Rattle.records.specs.Marks.{tile}
 use Rattle.records.specs.Entries.{Entry, entry-of}
 use Rattle.records.specs.Sound.{Sound}
 use Rattle.lines.specs.declared.Line.{Line}
-use Rattle.search_report.specs.Report.{lines-at, tiles-at}
+use Rattle.find_report.specs.Report.{lines-at, tiles-at}
 
 -- the record e came after the tiles ts: then there are the tiles us, and the lines went from old to new
 pub record Reported {C : Type 0} (k : Kind C) (r : Reading C) (rule : Rule C) (e : Entry) (ts us : List Body) (old new : List Line) : Type 0 where

@@ -6,8 +6,8 @@ use Rattle.std.specs.Of.Vec.{vec-items}
 use Rattle.std.specs.Options.{mapped}
 use Rattle.lines.specs.declared.Line.the-variants.{Fault}
 use Rattle.records.specs.Entries.{entry, fault-at}
-use Rattle.search_report.proofs.Files.{reached-none, reached-end, reached-fault, reached-more, record-took, shrinks}
-use Rattle.search_report.proofs.report_file.Needs as need
+use Rattle.find_report.proofs.Files.{reached-none, reached-end, reached-fault, reached-more, record-took, shrinks}
+use Rattle.find_report.proofs.report_file.Needs as need
 
 pub loop-next-holds : need.loop-next-holds
 loop-next-holds g c = reached-none (g .C·Cell .kind) (g .C·Cell .reading) (g .E·Engine .rule) (c .args .input .now) (vec-items (c .new-tiles .result)) (c .new-reader .result .at) (c .new-reader .result .rest .now) (vec-items (c .new-lines .result)) (c .new-tiles .ensures .items) (c .new-reader .ensures .at) (c .new-reader .ensures .rest) (c .new-lines .ensures .items)

@@ -7,8 +7,8 @@ use Rattle.std.proofs.shelf.Lists.{map-more, take-all}
 use Rattle.grids.specs.declared.Position.{Position}
 use Rattle.lines.specs.declared.Line.{Line}
 use Rattle.lines.specs.declared.Line.the-variants.{Tile}
-use Rattle.search_report.specs.Report.{place-line}
-use Rattle.search_report.proofs.push_tile.Needs as need
+use Rattle.find_report.specs.Report.{place-line}
+use Rattle.find_report.proofs.push_tile.Needs as need
 
 pub loop-place-again : need.loop-place-again
 loop-place-again c =

@@ -1,4 +1,4 @@
--- The lines that a search of a record file answers. Assumes nothing.
+-- The lines that finding the tiles of a record file answers. Assumes nothing.
 use mathlib.Core.Path.{_≡_}
 use mathlib.Core.Bool.{cond}
 use mathlib.Core.List.{List, [], _∷_, _++_, map}

@@ -10,9 +10,9 @@ use Rattle.engine.specs.Finding.{find-refusal}
 use Rattle.engine.proofs.Accepting.{accepts}
 use Rattle.records.specs.Marks.{tile as tile-mark}
 use Rattle.records.specs.Entries.{entry-of}
-use Rattle.search_report.specs.Report.{entry-tile}
-use Rattle.search_report.proofs.Found.{reads-in, front-cells, sound-valid, sound-few, finds}
-use Rattle.search_report.proofs.find_tile.Needs as need
+use Rattle.find_report.specs.Report.{entry-tile}
+use Rattle.find_report.proofs.Found.{reads-in, front-cells, sound-valid, sound-few, finds}
+use Rattle.find_report.proofs.find_tile.Needs as need
 
 pub unreachable-requires : need.unreachable-requires
 unreachable-requires g c κs =

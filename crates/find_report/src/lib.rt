@@ -14,8 +14,8 @@ ghost use Rattle.records.specs.Entries.{entry-of, entry};
 ghost use Rattle.records.specs.Files.{file};
 ghost use Rattle.records.specs.Sound.{Sound};
 ghost use Rattle.lines.specs.declared.Line.the-variants.{Tile as TileLine};
-ghost use Rattle.search_report.specs.Report.{Answers, place-line, entry-tile, tiles-lines, draft-lines, file-lines};
-ghost use Rattle.search_report.specs.Progress.{Reported};
+ghost use Rattle.find_report.specs.Report.{Answers, place-line, entry-tile, tiles-lines, draft-lines, file-lines};
+ghost use Rattle.find_report.specs.Progress.{Reported};
 use cells::Cell;
 use drafts::Draft;
 use drafts::OverBytes;
@@ -35,9 +35,9 @@ use sheets::ByteSheetOver;
 use std::alloc::AllocError;
 use std::alloc::Global;
 
-/// Searches each draft of a record file for each tile that stands before it in the file. What is
+/// Looks through each draft of a record file for each tile that stands before it in the file. What is
 /// reported of a tile are exactly its places, each once, in reading order.
-pub fn search_report<C: Cell + Clone + Default, E: Engine<C>>(
+pub fn find_report<C: Cell + Clone + Default, E: Engine<C>>(
     heap: Global,
     engine: &E,
     input: &[u8],
@@ -111,14 +111,14 @@ fn report_record<'a, C: Cell, E: Engine<C>>(
     match record {
         Record::Tile(body) => tiles.push(body)?,
         Record::Draft(body) => {
-            search_draft(heap, engine, &body, tiles.as_slice(), work, cells, lines)?
+            report_draft(heap, engine, &body, tiles.as_slice(), work, cells, lines)?
         }
     }
     Ok(())
 }
 
-// Searches a draft of the file for each of some tiles, and adds the lines of it.
-fn search_draft<C: Cell, E: Engine<C>>(
+// Looks through a draft of the file for each of some tiles, and adds the lines of it.
+fn report_draft<C: Cell, E: Engine<C>>(
     heap: Global,
     engine: &E,
     body: &Body<'_>,
@@ -135,7 +135,7 @@ fn search_draft<C: Cell, E: Engine<C>>(
     let made: Result<ByteSheet<C>, Refusal> = ByteSheetOver::over(body.rows, body.cols, body.cells);
     let Ok(mut sheet) = made else { unreachable() };
     let mut list = vec![in heap; Position { row: 0, col: 0 }; body.rows * body.cols]?;
-    search_tiles(
+    report_tiles(
         engine,
         &mut sheet,
         tiles,
@@ -152,8 +152,8 @@ fn search_draft<C: Cell, E: Engine<C>>(
     Ok(())
 }
 
-// Searches a draft for each of some tiles, and adds their lines; the list has room for all places.
-fn search_tiles<C: Cell, D: Draft<Cell = C>, E: Engine<C>>(
+// Looks through a draft for each of some tiles, and adds their lines; the list has room for all places.
+fn report_tiles<C: Cell, D: Draft<Cell = C>, E: Engine<C>>(
     engine: &E,
     draft: &mut D,
     tiles: &[Body<'_>],

@@ -9,8 +9,8 @@ use Rattle.drafts.specs.Making.{sheet, bytes-refusal}
 use Rattle.lines.specs.declared.Line.the-variants.{Draft}
 use Rattle.records.specs.Marks.{draft as draft-mark, tile as tile-mark}
 use Rattle.records.specs.Entries.{entry-of}
-use Rattle.search_report.specs.Report.{entry-tile, entry-grid, tiles-lines, draft-lines}
-use Rattle.search_report.proofs.search_draft.Needs as need
+use Rattle.find_report.specs.Report.{entry-tile, entry-grid, tiles-lines, draft-lines}
+use Rattle.find_report.proofs.report_draft.Needs as need
 
 pub returns : need.returns
 returns g c =
@@ -23,7 +23,7 @@ returns g c =
     let e = entry-of draft-mark b in
     let ts = map (entry-tile r) (map (entry-of tile-mark) bs) in
     let grid = unless-ok (bytes-refusal r (b .rows) (b .cols) (b .cells .now)) (entry-grid r e) _ (c .in-Ok .ensures tt .shows) .1 in
-    let mid = c .in-Continue-search-tiles .ensures tt ∙ ap (λ u. base ++ tiles-lines k rule u 0 ts) grid in
+    let mid = c .in-Continue-report-tiles .ensures tt ∙ ap (λ u. base ++ tiles-lines k rule u 0 ts) grid in
     let last = Draft (b .rows) (b .cols) (length bs) ∷ [] in
     c .in-Continue-push .ensures tt .items
     ∙ (ap (λ xs. xs ++ last) mid ∙ (append-assoc base (tiles-lines k rule (entry-grid r e) 0 ts) last ∙ ap (λ n. base ++ (tiles-lines k rule (entry-grid r e) 0 ts ++ (Draft (b .rows) (b .cols) n ∷ []))) (sym (length-map bs (entry-of tile-mark)))))

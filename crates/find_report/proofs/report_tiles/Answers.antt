@@ -13,9 +13,9 @@ use Rattle.records.specs.declared.Body.{Body}
 use Rattle.records.specs.Marks.{tile as tile-mark}
 use Rattle.records.specs.Entries.{entry-of}
 use Rattle.records.specs.Sound.{Sound}
-use Rattle.search_report.specs.Report.{entry-tile, place-line}
-use Rattle.search_report.proofs.Tiles.{searched-none, searched-more, searched-all, tile-added}
-use Rattle.search_report.proofs.search_tiles.Needs as need
+use Rattle.find_report.specs.Report.{entry-tile, place-line}
+use Rattle.find_report.proofs.Tiles.{searched-none, searched-more, searched-all, tile-added}
+use Rattle.find_report.proofs.report_tiles.Needs as need
 
 pub loop-n-holds : need.loop-n-holds
 loop-n-holds g c = (searched-none (g .C·Cell .kind) (g .C·Cell .reading) (g .E·Engine .rule) (g .D·Draft .shows (c .args .draft .now) .grid) (c .args .tiles .now) (vec-items (c .args .lines .now)), refl)

@@ -5,8 +5,8 @@ use Rattle.std.specs.Of.Vec.{vec-items}
 use Rattle.std.proofs.shelf.Results.{err-from-errBy, made-weaker}
 use Rattle.grids.proofs.Exactly.{exactly}
 use Rattle.lines.specs.declared.Line.the-variants.{TooLong}
-use Rattle.search_report.proofs.Files.{report-short, report-long}
-use Rattle.search_report.proofs.search_report.Needs as need
+use Rattle.find_report.proofs.Files.{report-short, report-long}
+use Rattle.find_report.proofs.find_report.Needs as need
 
 pub returns-in-Break-cells : need.returns-in-Break-cells
 returns-in-Break-cells g c = let p = err-from-errBy (c .from-residual-in-Break-cells .result) (c .from-residual-in-Break-cells .ensures .1) in rw (p .1) tt

@@ -26,7 +26,7 @@ use Rattle.records.specs.Sound.{Sound}
 use Rattle.records.proofs.Fronting.{Took, took}
 use Rattle.lines.specs.declared.Line.{Line}
 use Rattle.lines.specs.declared.Line.the-variants.{Fault, TooLong}
-use Rattle.search_report.specs.Report.{draft-lines, fault-lines, lines-at, tiles-at, entries-lines, file-lines, report}
+use Rattle.find_report.specs.Report.{draft-lines, fault-lines, lines-at, tiles-at, entries-lines, file-lines, report}
 
 -- what a reader's answer tells of what stood before it
 at-end : (n : ℕ) (f : Front) → Ok None ≡ next-answer n f → f ≡ end
