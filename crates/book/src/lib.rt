@@ -1,4 +1,6 @@
 //! The fault book: its table of tiles, whose cells are in a lent store, and the calls on both.
+#![tactic(auto)]
+
 ghost use Rattle.std.specs.Prelude.{◌≡◌, ℕ, ◌<◌, ◌≤◌, length, slice_index_or};
 ghost use Rattle.book.specs.Table.{Sized, no_entry};
 

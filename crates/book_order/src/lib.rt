@@ -1,4 +1,6 @@
 //! Book order: which of two tiles is before the other, and whether they are the same.
+#![tactic(auto)]
+
 ghost use Rattle.std.specs.Prelude.{◌≡◌, Decides};
 ghost use Rattle.grids.specs.Grids.{Valid};
 ghost use Rattle.grids.specs.Kinds.{Lawful};

@@ -1,5 +1,7 @@
 //! What the programs lookover and lookthreads answer: bytes in, lines out, for every kind of cells and
 //! every engine.
+#![tactic(auto)]
+
 ghost use Rattle.std.specs.Prelude.{◌≡◌, ◌≤◌, ◌++◌, length, take, IfOk, OnOk};
 ghost use Rattle.grids.specs.Grids.{Valid, laid};
 ghost use Rattle.grids.specs.Places.{places};

@@ -1,5 +1,7 @@
 //! Tables of cases: record files and what lookfor prints of them, the limits of sheets and of finds,
 //! and the kinds of cells. Each expectation was worked out from docs/ and not by the crates.
+#![tactic(auto)]
+
 #[cfg(test)]
 mod faults;
 #[cfg(test)]

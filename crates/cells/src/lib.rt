@@ -1,4 +1,6 @@
 //! Cells: what a kind of cell owes, and the two kinds.
+#![tactic(auto)]
+
 mod cell;
 mod lift;
 mod thread;

@@ -1,4 +1,6 @@
 //! Drafts: grids that are looked at cell by cell, and that count the looks.
+#![tactic(auto)]
+
 ghost use Rattle.std.specs.Prelude.{◌≡◌, ◌*◌, length};
 ghost use Rattle.grids.specs.Grids.{DrawnGrid};
 ghost use Rattle.grids.specs.Refusals.{unless, numbered_by};

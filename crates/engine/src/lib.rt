@@ -1,4 +1,6 @@
 //! Engines: what finding a tile in a draft answers, whichever way it is done.
+#![tactic(auto)]
+
 ghost use Rattle.std.specs.Prelude.{◌≡◌, ℕ, length, OnErr, slice_set};
 ghost use Rattle.grids.specs.Refusals.{numbered, numbers};
 ghost use Rattle.engine.specs.Views.{viewed};

@@ -1,4 +1,6 @@
 //! What the program lookfor answers: bytes in, lines out, for every kind of cells and every engine.
+#![tactic(auto)]
+
 ghost use Rattle.std.specs.Prelude.{◌≡◌, ◌*◌, ◌≤◌, [], ◌∷◌, ◌++◌, map, length, take, IfOk, OnOk};
 ghost use Rattle.std.specs.List.{AllByRecursion as All};
 ghost use Rattle.grids.specs.Grids.{laid};

@@ -1,4 +1,6 @@
 //! The lowest layer: refusals, positions and answers, and the theory of grids, tiles and places.
+#![tactic(auto)]
+
 ghost use Rattle.std.specs.Prelude.{◌≡◌};
 ghost use Rattle.grids.specs.Numbers.{number};
 

@@ -1,4 +1,5 @@
 //! Tries each limit that a caller can meet, at the limit and just past it, and prints a line for each.
+#![tactic(auto)]
 
 mod asks;
 mod attempt;

@@ -1,4 +1,6 @@
 //! Lines of output, and how each is written.
+#![tactic(auto)]
+
 ghost use Rattle.std.specs.Prelude.{◌≡◌, IfOk, Some, string_bytes};
 ghost use Rattle.lines.specs.Rendering.{rendered, page};
 

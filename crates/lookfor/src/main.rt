@@ -1,4 +1,6 @@
 //! Finds the tiles of a record file in its drafts: lookfor ENGINE KIND < FILE
+#![tactic(auto)]
+
 use cells::{Lift, Thread};
 use find_report::find_report;
 use lines::{Line, render};

@@ -1,4 +1,6 @@
 //! Looks over the drafts of a record file of lifts by its tiles: lookover < FILE
+#![tactic(auto)]
+
 use book_report::book_report;
 use cells::Lift;
 use lines::render;

@@ -1,4 +1,6 @@
 //! Looks over the drafts of a record file of threads by its tiles: lookthreads < FILE
+#![tactic(auto)]
+
 use book_report::book_report;
 use cells::Thread;
 use lines::render;

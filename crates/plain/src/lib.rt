@@ -1,5 +1,7 @@
 //! The plain engine: at each alignment the tile is compared with the draft cell by cell, up to the
 //! first cell that differs.
+#![tactic(auto)]
+
 ghost use Rattle.std.specs.Prelude.{◌≡◌, ◌+◌, ◌^◌, ◌<◌, ◌≤◌, [], ◌∷◌, length, Some, OnErr, OnOk};
 ghost use Rattle.grids.specs.Grids.{laid};
 ghost use Rattle.grids.specs.Places.{Exact, alike, lies, row_spots, spots, heights, widths};

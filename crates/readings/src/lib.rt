@@ -1,4 +1,6 @@
 //! Reading cells, one after another, from file bytes.
+#![tactic(auto)]
+
 ghost use Rattle.std.specs.Prelude.{◌≡◌, ◌≤◌, true, length, is_some};
 ghost use Rattle.grids.specs.Listed.{listed};
 ghost use Rattle.grids.specs.Refusals.{numbered, unless, kept_or};

@@ -1,4 +1,6 @@
 //! Record files: drafts and tiles, each with its cells as a part of the file's bytes.
+#![tactic(auto)]
+
 ghost use Rattle.std.specs.Prelude.{◌≡◌, ◌+◌, ◌^◌, ◌<◌, length};
 ghost use Rattle.grids.specs.Numbers.{number};
 ghost use Rattle.grids.specs.Refusals.{first_failed, numbered_by, unless};

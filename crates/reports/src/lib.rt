@@ -1,4 +1,6 @@
 //! What all reports share: the lines that a program answers for a record file, one record after another.
+#![tactic(auto)]
+
 ghost use Rattle.std.specs.Prelude.{◌≡◌, ◌++◌, map, OnOk};
 ghost use Rattle.reports.specs.Reports.{place_line};
 

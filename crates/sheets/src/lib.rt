@@ -1,4 +1,6 @@
 //! Bottom drafts: sheets over lent cells, and over lent file bytes.
+#![tactic(auto)]
+
 mod byte_sheet;
 mod cell_sheet;
 
