@@ -24,6 +24,6 @@ pub returns : goal.returns
 returns g c =
     let s = viewed c.args.a.now in
     let t = viewed c.args.b.now in
-    let e : c.cells-before.result ≡ (tiles g.C.Cell.kind).before s t =
-    c.cells-before.ensures ∙ sym (rw (eq-eqb s.rows t.rows (omega arith), eq-eqb s.cols t.cols (omega arith)) refl) in
+    let e : c.cells_before.result ≡ (tiles g.C.Cell.kind).before s t =
+    c.cells_before.ensures ∙ sym (rw (eq-eqb s.rows t.rows (omega arith), eq-eqb s.cols t.cols (omega arith)) refl) in
     record { answer = e; words = before_told g.met.C.Cell.lawful s t _ e; order = tiles_lawful g.met.C.Cell.lawful }

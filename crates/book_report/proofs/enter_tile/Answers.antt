@@ -16,7 +16,7 @@ overflow-mul-count g c = omega (arith, sound_few g.C.Cell.reading (entry_of tile
 pub unreachable-requires : goal.unreachable-requires
 unreachable-requires g c =
     let e = entry_of tile-mark c.args.body.now in
-    not_refused _ _ (number c.in-default.field-0) (reads_in g.C.Cell.reading e (length c.args.cells.now) c.requires.sound c.requires.room) c.in-default.ensures.answer
+    not_refused _ _ (number c.in_default.field-0) (reads_in g.C.Cell.reading e (length c.args.cells.now) c.requires.sound c.requires.room) c.in_default.ensures.answer
 
 pub returns-in-Ok-enter : goal.returns-in-Ok-enter
 returns-in-Ok-enter g c =
@@ -25,7 +25,7 @@ returns-in-Ok-enter g c =
     let b = c.args.body.now in
     let e = entry_of tile-mark b in
     let s = held c.args.book.now c.args.store.now in
-    let v = front-tile r e c.args.cells.now c.read-cells.new.cells c.requires.sound c.requires.room c.read-cells.ensures.cells in
+    let v = front-tile r e c.args.cells.now c.read_cells.new.cells c.requires.sound c.requires.room c.read_cells.ensures.cells in
     let enters = c.in-Ok-enter.ensures.enters in
     record { line = ap (enter_line b.rows b.cols) (enters.answered ∙ ap (enter_answer k s) v); state = enters.state ∙ ap (enter_state k s) v }
 
@@ -36,6 +36,6 @@ returns-in-Err g c =
     let b = c.args.body.now in
     let e = entry_of tile-mark b in
     let s = held c.args.book.now c.args.store.now in
-    let v = front-tile r e c.args.cells.now c.read-cells.new.cells c.requires.sound c.requires.room c.read-cells.ensures.cells in
+    let v = front-tile r e c.args.cells.now c.read_cells.new.cells c.requires.sound c.requires.room c.read_cells.ensures.cells in
     let enters = c.in-Err.ensures.enters in
     record { line = ap Refused c.number.ensures ∙ ap (enter_line b.rows b.cols) (enters.answered ∙ ap (enter_answer k s) v); state = enters.state ∙ ap (enter_state k s) v }

@@ -8,7 +8,7 @@ use Rattle.reports.specs.Reports.{numbered_lines}
 use Rattle.book_report.specs.Report.{place_lines, verdict_line}
 use Rattle.book_report.proofs.Drafts.{no_lines}
 use Rattle.book_report.proofs.look_over.Goals as goal
-use Rattle.book_report.proofs.look_over.Goals.{then-verdict-gt0+in-ok-report-tiles, else-verdict-gt0}
+use Rattle.book_report.proofs.look_over.Goals.{then-verdict-gt0+in_ok-report_tiles, else-verdict-gt0}
 
 pub returns : goal.returns
 returns g c =
@@ -26,9 +26,9 @@ returns g c =
     let here = (g.D.Draft.shows c.if-verdict-gt0.draft).grid in
     let so : (mid ≡ base ++ numbered_lines f 0 s.tiles) × (here ≡ grid) =
     elim c.if-verdict-gt0.branch [
-      | then-verdict-gt0+in-ok-report-tiles w ↦ (
-        ap (λ l. vec_items l) w.lines-is ∙ (w.in-ok-report-tiles.ensures.0 ∙ ap₂ (λ h ts. base ++ numbered_lines (place_lines k h) 0 ts) j.same (ap (λ z. z.tiles) state)),
-        ap (λ d. (g.D.Draft.shows d).grid) w.draft-is ∙ (w.in-ok-report-tiles.ensures.1 ∙ j.same),
+      | then-verdict-gt0+in_ok-report_tiles w ↦ (
+        ap (λ l. vec_items l) w.lines-is ∙ (w.in_ok-report_tiles.ensures.0 ∙ ap₂ (λ h ts. base ++ numbered_lines (place_lines k h) 0 ts) j.same (ap (λ z. z.tiles) state)),
+        ap (λ d. (g.D.Draft.shows d).grid) w.draft-is ∙ (w.in_ok-report_tiles.ensures.1 ∙ j.same),
       )
       | else-verdict-gt0 w ↦ (
         ap (λ l. vec_items l) w.lines-is ∙ (sym (append-nil base) ∙ ap (λ ls. base ++ ls) (sym (no_lines k grid 0 s.tiles (omega (arith, found, w.if-verdict-gt0.false))))),
@@ -39,6 +39,6 @@ returns g c =
     c.verdict_line.ensures
     ∙ (ap₂ (λ m n. verdict_line m n c.in-Ok.verdict.found) (c.rows.ensures ∙ ap (λ h. h.rows) so.1) (c.cols.ensures ∙ ap (λ h. h.cols) so.1) ∙ ap (verdict_line grid.rows grid.cols) found) in
     record {
-      lines = c.in-ok-push.ensures.items ∙ (ap₂ (λ xs l. xs ++ (l ∷ [])) so.0 last ∙ append_assoc base (numbered_lines f 0 s.tiles) (verdict_line grid.rows grid.cols (found_in k grid s.tiles) ∷ []));
+      lines = c.in_ok-push.ensures.items ∙ (ap₂ (λ xs l. xs ++ (l ∷ [])) so.0 last ∙ append_assoc base (numbered_lines f 0 s.tiles) (verdict_line grid.rows grid.cols (found_in k grid s.tiles) ∷ []));
       state = state;
     }

@@ -15,5 +15,5 @@ returns g c =
     let b = c.args.body.now in
     let cs = c.args.store.now in
     let grid = (unless_ok (bytes_refusal r b.rows b.cols b.cells.now) (entry_grid r (entry_of draft_mark b)) _ c.in-Ok.ensures.shows).1 in
-    let P : Grid _ → Type 0 = λ h. Looked g.C.Cell.kind h (held c.args.book.now cs) (held c.look-over.new.book cs) (vec_items c.args.lines.now) (vec_items c.look-over.new.lines) in
-    subst P grid c.in-ok-look-over.ensures
+    let P : Grid _ → Type 0 = λ h. Looked g.C.Cell.kind h (held c.args.book.now cs) (held c.look_over.new.book cs) (vec_items c.args.lines.now) (vec_items c.look_over.new.lines) in
+    subst P grid c.in_ok-look_over.ensures

@@ -14,8 +14,8 @@ loop-next-init g c =
     let S : Held _ → Type 0 = λ s. Stored s in
     (reached_none new c.new-reader.ensures.at c.new-reader.ensures.rest c.new-lines.ensures.items, subst S (sym new) (omega arith))
 
-pub report-record-requires : goal.report-record-requires
-report-record-requires g c =
+pub report_record-requires : goal.report_record-requires
+report_record-requires g c =
     let t = record_took g.C.Cell.reading c.loop-next.reader.at c.loop-next.reader.rest.now (answer_is c.in-Some.is c.in-Ok.ensures.answer) in
     record { sound = t.2.sound; stored = c.loop-next.invariant.1; room = (omega arith, omega arith) }
 
@@ -24,16 +24,16 @@ loop-next-smaller g c = shrinks g.C.Cell.reading c.loop-next.reader.at c.loop-ne
 
 pub loop-next-preserved : goal.loop-next-preserved
 loop-next-preserved g c =
-    let p = c.in-ok-report-record.ensures in
+    let p = c.in_ok-report_record.ensures in
     let S : Held _ → Type 0 = λ s. Stored s in
     let e = entry c.in-Some.«record» in (
       reached_more c.loop-next.invariant.0 (answer_is c.in-Some.is c.in-Ok.ensures.answer) p.state c.next.ensures.at c.next.ensures.rest p.lines,
       subst S (sym p.state) (next_stored g.C.Cell.kind g.C.Cell.reading (held c.loop-next.book c.loop-next.store) e e.mark c.loop-next.invariant.1),
     )
 
-pub returns-in-default : goal.returns-in-default
-returns-in-default g c = reached_end c.loop-next.invariant.0 (answer_is c.in-default.is c.in-Ok.ensures.answer)
+pub returns-in_default : goal.returns-in_default
+returns-in_default g c = reached_end c.loop-next.invariant.0 (answer_is c.in_default.is c.in-Ok.ensures.answer)
 
 pub returns-in-Err : goal.returns-in-Err
 returns-in-Err g c =
-    reached_fault c.loop-next.invariant.0 c.in-Err.ensures.answer (c.in-ok-push.ensures.items ∙ ap (λ n. vec_items c.loop-next.lines ++ (Fault n c.in-Err.fault.at ∷ [])) c.number.ensures)
+    reached_fault c.loop-next.invariant.0 c.in-Err.ensures.answer (c.in_ok-push.ensures.items ∙ ap (λ n. vec_items c.loop-next.lines ++ (Fault n c.in-Err.fault.at ∷ [])) c.number.ensures)

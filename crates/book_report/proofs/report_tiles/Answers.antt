@@ -21,7 +21,7 @@ unreachable-requires g c =
     let b = c.args.book.now in
     let cs = c.args.store.now in
     let n = c.loop-n.n in
-    not_refused (hand_out_refusal (held b cs) n) _ (number c.in-default.field-0) (handed_out (held b cs) n (omega (arith, c.loop-n-test.true, c.count-n-end.ensures, length_cut (sizes b) cs)) c.requires.stored) c.in-default.ensures.tile
+    not_refused (hand_out_refusal (held b cs) n) _ (number c.in_default.field-0) (handed_out (held b cs) n (omega (arith, c.loop-n-test.true, c.count-n-end.ensures, length_cut (sizes b) cs)) c.requires.stored) c.in_default.ensures.tile
 
 pub loop-n-preserved : goal.loop-n-preserved
 loop-n-preserved g c =
@@ -34,20 +34,20 @@ loop-n-preserved g c =
     let here = (g.D.Draft.shows c.loop-n.draft).grid in
     let t = viewed c.in-Ok.tile in
     let u = get_or s.tiles n no_tile in
-    let list = c.find-places-shown.new.list in
-    let m = c.find-places-shown.result in
+    let list = c.find_places-shown.new.list in
+    let m = c.find_places-shown.result in
     let is : t ≡ u = (unless_ok (hand_out_refusal s n) u t c.in-Ok.ensures.tile).1 in
     let listing : take (m - 0) list ≡ take 64 (places k grid (laid u)) =
     ap (λ i. take i list) (omega arith)
-    ∙ (c.find-places-shown.ensures.listing
+    ∙ (c.find_places-shown.ensures.listing
     ∙ (ap (λ i. take i (places k here (laid t))) c.loop-n.invariant.2
     ∙ (ap (λ h. take 64 (places k h (laid t))) c.loop-n.invariant.1 ∙ ap (λ x. take 64 (places k grid (laid x))) is))) in
     let old = vec_items c.args.lines.now in
     let mid = vec_items c.loop-n.lines in (
-      numbered_more (place_lines k grid) s.tiles n no_tile old mid (vec_items c.push-places.new.lines) (omega (arith, c.loop-n-test.true, c.count-n-end.ensures, length_cut (sizes b) cs)) c.loop-n.invariant.0
-          (c.in-ok-push-places.ensures ∙ ap (λ ps. mid ++ map (place_line n) ps) listing),
-      c.find-places-shown.ensures.same ∙ c.loop-n.invariant.1,
-      c.find-places-shown.auto.list ∙ c.loop-n.invariant.2,
+      numbered_more (place_lines k grid) s.tiles n no_tile old mid (vec_items c.push_places.new.lines) (omega (arith, c.loop-n-test.true, c.count-n-end.ensures, length_cut (sizes b) cs)) c.loop-n.invariant.0
+          (c.in_ok-push_places.ensures ∙ ap (λ ps. mid ++ map (place_line n) ps) listing),
+      c.find_places-shown.ensures.same ∙ c.loop-n.invariant.1,
+      c.find_places-shown.auto.list ∙ c.loop-n.invariant.2,
     )
 
 pub returns : goal.returns

@@ -13,7 +13,7 @@ loop-place-preserved c =
     let f = place_line c.args.tile in
     let base = vec_items c.args.lines.now in
     let d : Position = record { row = 0; col = 0 } in
-    c.in-ok-push.ensures.items
+    c.in_ok-push.ensures.items
     ∙ (ap (λ xs. xs ++ f (get_or ps i d) ∷ []) c.loop-place.invariant ∙ (append_assoc base (map f (take i ps)) (f (get_or ps i d) ∷ []) ∙ ap (λ ys. base ++ ys) (sym (map_more f ps i d (omega arith)))))
 
 pub returns : goal.returns
@@ -23,5 +23,5 @@ returns c =
     let f = place_line c.args.tile in
     let base = vec_items c.args.lines.now in
     let y : Line = Tile c.args.tile (length ps) c.args.looks in
-    c.in-ok-push-2.ensures.items
+    c.in_ok-push-2.ensures.items
     ∙ (ap (λ xs. xs ++ y ∷ []) (c.loop-place.invariant ∙ ap (λ qs. base ++ map f qs) (take_all i ps (omega arith))) ∙ append_assoc base (map f ps) (y ∷ []))

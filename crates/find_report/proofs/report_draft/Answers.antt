@@ -19,7 +19,7 @@ returns g c =
     let e = entry_of draft_mark b in
     let ts = map (entry_tile r) (map (entry_of tile-mark) bs) in
     let grid = (unless_ok (bytes_refusal r b.rows b.cols b.cells.now) (entry_grid r e) _ c.in-Ok.ensures.shows).1 in
-    let mid = c.in-ok-report-tiles.ensures ∙ ap (λ u. base ++ tiles_lines k rule u 0 ts) grid in
+    let mid = c.in_ok-report_tiles.ensures ∙ ap (λ u. base ++ tiles_lines k rule u 0 ts) grid in
     let last = Draft b.rows b.cols (length bs) ∷ [] in
-    c.in-ok-push.ensures.items
+    c.in_ok-push.ensures.items
     ∙ (ap (λ xs. xs ++ last) mid ∙ (append_assoc base (tiles_lines k rule (entry_grid r e) 0 ts) last ∙ ap (λ n. base ++ (tiles_lines k rule (entry_grid r e) 0 ts ++ (Draft b.rows b.cols n ∷ []))) (sym (length-map bs (entry_of tile-mark)))))

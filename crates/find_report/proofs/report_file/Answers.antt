@@ -8,8 +8,8 @@ use Rattle.find_report.proofs.report_file.Goals as goal
 pub loop-next-init : goal.loop-next-init
 loop-next-init g c = reached_none g.C.Cell.kind g.C.Cell.reading g.E.Engine.rule c.args.input.now (vec_items c.new-tiles.result) c.new-reader.result.at c.new-reader.result.rest.now (vec_items c.new-lines.result) c.new-tiles.ensures.items c.new-reader.ensures.at c.new-reader.ensures.rest c.new-lines.ensures.items
 
-pub report-record-requires : goal.report-record-requires
-report-record-requires g c =
+pub report_record-requires : goal.report_record-requires
+report_record-requires g c =
     let l = c.loop-next in
     let t = record_took g.C.Cell.kind g.C.Cell.reading g.E.Engine.rule c.args.input.now (vec_items l.tiles) l.reader.at l.reader.rest.now (vec_items l.lines) (entry c.in-Some.record) (ap (λ o. Ok (option_map entry o)) (sym c.in-Some.is) ∙ c.in-Ok.ensures.answer) l.invariant in
     record { sound = t.2.sound; tiles = l.invariant.sound; room = (omega arith, omega arith) }
@@ -22,18 +22,18 @@ loop-next-smaller g c =
 pub loop-next-preserved : goal.loop-next-preserved
 loop-next-preserved g c =
     let l = c.loop-next in
-    let p = c.in-ok-report-record.ensures in
+    let p = c.in_ok-report_record.ensures in
     reached_more g.C.Cell.kind g.C.Cell.reading g.E.Engine.rule c.args.input.now (vec_items l.tiles) l.reader.at l.reader.rest.now (vec_items l.lines) (entry c.in-Some.record) (ap (λ o. Ok (option_map entry o)) (sym c.in-Some.is) ∙ c.in-Ok.ensures.answer) l.invariant
-    (vec_items c.report-record.new.tiles) c.next.new.self.at c.next.new.self.rest.now (vec_items c.report-record.new.lines) c.next.ensures.at c.next.ensures.rest p.tiles p.lines p.sound
+    (vec_items c.report_record.new.tiles) c.next.new.self.at c.next.new.self.rest.now (vec_items c.report_record.new.lines) c.next.ensures.at c.next.ensures.rest p.tiles p.lines p.sound
 
-pub returns-in-default : goal.returns-in-default
-returns-in-default g c =
+pub returns-in_default : goal.returns-in_default
+returns-in_default g c =
     let l = c.loop-next in
-    reached_end g.C.Cell.kind g.C.Cell.reading g.E.Engine.rule c.args.input.now (vec_items l.tiles) l.reader.at l.reader.rest.now (vec_items l.lines) (ap (λ o. Ok (option_map entry o)) (sym c.in-default.is) ∙ c.in-Ok.ensures.answer) l.invariant
+    reached_end g.C.Cell.kind g.C.Cell.reading g.E.Engine.rule c.args.input.now (vec_items l.tiles) l.reader.at l.reader.rest.now (vec_items l.lines) (ap (λ o. Ok (option_map entry o)) (sym c.in_default.is) ∙ c.in-Ok.ensures.answer) l.invariant
 
 pub returns-in-Err : goal.returns-in-Err
 returns-in-Err g c =
     let l = c.loop-next in
     let f = c.in-Err.fault in
     reached_fault g.C.Cell.kind g.C.Cell.reading g.E.Engine.rule c.args.input.now (vec_items l.tiles) l.reader.at l.reader.rest.now (vec_items l.lines) (vec_items c.push.new.self) (fault_at f) c.in-Err.ensures.answer
-    (c.in-ok-push.ensures.items ∙ ap (λ n. vec_items l.lines ++ (Fault n f.at ∷ [])) c.number.ensures) l.invariant
+    (c.in_ok-push.ensures.items ∙ ap (λ n. vec_items l.lines ++ (Fault n f.at ∷ [])) c.number.ensures) l.invariant

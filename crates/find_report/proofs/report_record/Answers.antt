@@ -10,19 +10,19 @@ use Rattle.records.specs.Sound.{Sound}
 use Rattle.find_report.specs.Progress.{Reported}
 use Rattle.find_report.proofs.report_record.Goals as goal
 
-pub report-draft-requires : goal.report-draft-requires
-report-draft-requires g c =
+pub report_draft-requires : goal.report_draft-requires
+report_draft-requires g c =
     let r = g.C.Cell.reading in
     let P : Record → Type 0 = λ x. Sound r (limit (entry x).mark) (entry x) in
     let Q : List Body → Type 0 = λ bs. All (λ b. Sound r 32 (entry_of tile-mark b)) bs in
     record {
       sound = subst P c.in-Draft.is c.requires.sound;
-      tiles = subst Q (sym c.as-slice.ensures.value) c.requires.tiles;
+      tiles = subst Q (sym c.as_slice.ensures.value) c.requires.tiles;
       room = c.requires.room;
     }
 
-pub returns-in-ok-push : goal.returns-in-ok-push
-returns-in-ok-push g c =
+pub returns-in_ok-push : goal.returns-in_ok-push
+returns-in_ok-push g c =
     let k = g.C.Cell.kind in
     let r = g.C.Cell.reading in
     let rule = g.E.Engine.rule in
@@ -30,7 +30,7 @@ returns-in-ok-push g c =
     let us = vec_items c.push.new.self in
     let old = vec_items c.args.lines.now in
     let body = c.in-Tile.body in
-    let items = c.in-ok-push.ensures.items in
+    let items = c.in_ok-push.ensures.items in
     let P : Record → Type 0 = λ x. Sound r (limit (entry x).mark) (entry x) in
     let Q : List Body → Type 0 = λ bs. All (λ b. Sound r 32 (entry_of tile-mark b)) bs in
     let R : Record → Type 0 = λ x. Reported k r rule (entry x) ts us old old in

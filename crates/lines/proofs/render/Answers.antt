@@ -9,7 +9,7 @@ loop-line-preserved c =
     let ls = c.args.lines.now in
     let i = c.loop-line.line-index in
     let x = get_or ls i (Place 0 0 0) in
-    c.in-ok-write.ensures.bytes
+    c.in_ok-write.ensures.bytes
     ∙ (ap (λ bs. bs ++ rendered x) c.loop-line.invariant ∙ (flat_map_more rendered [] (take i ls) x ∙ ap page (sym (take_more ls i (Place 0 0 0) (omega arith)))))
 
 pub returns : goal.returns

@@ -16,11 +16,11 @@ offset-bounds-cells-i g c = let h = place_within c.args.tile.now.rows c.args.til
 
 pub loop-j-preserved : goal.loop-j-preserved
 loop-j-preserved g c = (
-  c.agree-at.ensures.same ∙ c.loop-j.invariant.0,
+  c.agree_at.ensures.same ∙ c.loop-j.invariant.0,
   c.loop-j.invariant.1,
   omega arith,
-  c.agree-at.ensures.counts ∙ (ap (λ u. raised u 1) c.loop-j.invariant.3 ∙ raised_more _ _ 1),
-  cell_agrees g.C.Cell.kind (g.D.Draft.shows c.tile.draft).grid (g.D.Draft.shows c.loop-j.draft).grid (viewed c.args.tile.now) c.args.corner c.tile.i c.loop-j.j c.index-cells-i.result c.agree-at.result c.requires.ready.valid c.tile-test.true c.loop-j-test.true c.index-cells-i.is c.loop-j.invariant.0 c.agree-at.ensures.answer c.if-not-agree-at.false c.loop-j.invariant.4,
+  c.agree_at.ensures.counts ∙ (ap (λ u. raised u 1) c.loop-j.invariant.3 ∙ raised_more _ _ 1),
+  cell_agrees g.C.Cell.kind (g.D.Draft.shows c.tile.draft).grid (g.D.Draft.shows c.loop-j.draft).grid (viewed c.args.tile.now) c.args.corner c.tile.i c.loop-j.j c.index-cells-i.result c.agree_at.result c.requires.ready.valid c.tile-test.true c.loop-j-test.true c.index-cells-i.is c.loop-j.invariant.0 c.agree_at.ensures.answer c.if-not-agree_at.false c.loop-j.invariant.4,
 )
 
 pub returns-after-tile : goal.returns-after-tile
@@ -38,9 +38,9 @@ returns-after-tile g c =
       counts = c.tile.invariant.3;
     }
 
-pub returns-then-not-agree-at : goal.returns-then-not-agree-at
-returns-then-not-agree-at g c =
+pub returns-then-not-agree_at : goal.returns-then-not-agree_at
+returns-then-not-agree_at g c =
     let few = tested_few (agree_at g.C.Cell.kind (g.D.Draft.shows c.args.draft.now).grid (laid (viewed c.args.tile.now)) c.args.corner) c.args.tile.now.rows c.args.tile.now.cols c.requires.ready.valid.few_rows c.requires.ready.valid.few_cols in
-    let e = cell_differs g.C.Cell.kind (g.D.Draft.shows c.tile.draft).grid (g.D.Draft.shows c.loop-j.draft).grid (viewed c.args.tile.now) c.args.corner c.tile.i c.loop-j.j c.index-cells-i.result c.agree-at.result c.requires.ready.valid c.tile-test.true c.loop-j-test.true c.index-cells-i.is c.loop-j.invariant.0 c.agree-at.ensures.answer (g.D.Draft.shows c.args.draft.now).grid c.tile.invariant.0 c.if-not-agree-at.true c.loop-j.invariant.4 in
+    let e = cell_differs g.C.Cell.kind (g.D.Draft.shows c.tile.draft).grid (g.D.Draft.shows c.loop-j.draft).grid (viewed c.args.tile.now) c.args.corner c.tile.i c.loop-j.j c.index-cells-i.result c.agree_at.result c.requires.ready.valid c.tile-test.true c.loop-j-test.true c.index-cells-i.is c.loop-j.invariant.0 c.agree_at.ensures.answer (g.D.Draft.shows c.args.draft.now).grid c.tile.invariant.0 c.if-not-agree_at.true c.loop-j.invariant.4 in
     let more : c.loop-j.seen + 1 ≡ c.tile.i * c.args.tile.now.cols + c.loop-j.j + 1 = omega (arith, c.loop-j.invariant.2) in
-    record { agrees = e.all; cells = more ∙ e.tested; few = omega (arith, more, e.tested); same = c.agree-at.ensures.same ∙ (c.loop-j.invariant.0 ∙ c.tile.invariant.0); counts = omega (arith, c.agree-at.ensures.counts, c.loop-j.invariant.3, c.tile.invariant.3, c.tile.invariant.2, c.loop-j.invariant.2) }
+    record { agrees = e.all; cells = more ∙ e.tested; few = omega (arith, more, e.tested); same = c.agree_at.ensures.same ∙ (c.loop-j.invariant.0 ∙ c.tile.invariant.0); counts = omega (arith, c.agree_at.ensures.counts, c.loop-j.invariant.3, c.tile.invariant.3, c.tile.invariant.2, c.loop-j.invariant.2) }

@@ -11,8 +11,8 @@ pub row-found-requires : goal.row-found-requires
 row-found-requires g c =
     let s = c.loop-r.invariant.0 in
     let d = c.loop-r.invariant.1 in
-    let few = mul-le c.loop-r.r c.saturating-sub-width.result 2048 2048 (omega arith) (omega arith) in
-    let n = length-spots c.loop-r.r c.saturating-sub-width.result in
+    let few = mul-le c.loop-r.r c.saturating_sub-width.result 2048 2048 (omega arith) (omega arith) in
+    let n = length-spots c.loop-r.r c.saturating_sub-width.result in
     record {
       ready = ready_at (viewed c.args.tile.now) s c.requires;
       inside = (omega (arith, ap (λ u. u.rows) s), omega (arith, ap (λ u. u.cols) s));
@@ -27,5 +27,5 @@ returns g c =
     let d = (g.D.Draft.shows c.args.draft.now).grid in
     let t = laid (viewed c.args.tile.now) in
     let m : c.loop-r.r ≡ heights d t = omega arith in
-    let n : c.saturating-sub-width.result ≡ widths d t = omega arith in
+    let n : c.saturating_sub-width.result ≡ widths d t = omega arith in
     record { done = done_spots g.C.Cell.kind d t m n c.loop-r.invariant.1; same = c.loop-r.invariant.0 }

@@ -2,7 +2,7 @@ use Rattle.std.proofs.Common.{is_some, sym, refl, ap, ◌∙◌, subst, arith}
 use Rattle.std.proofs.lemmas.Bool.{both_ways}
 use Rattle.readings.proofs.InTurn.{Copied, copied_none, copied_more, copied_reads, copied_all, read_part, none_short}
 use Rattle.readings.proofs.copy_cells.Goals as goal
-use Rattle.readings.proofs.copy_cells.Goals.{in-Some, in-default}
+use Rattle.readings.proofs.copy_cells.Goals.{in-Some, in_default}
 
 pub loop-i-init : goal.loop-i-init
 loop-i-init g c = copied_none g.C.Cell.reading c.args.count c.args.bytes.now c.args.cells.now c.requires.read
@@ -17,11 +17,11 @@ returns-then-rest-width g c =
 pub loop-i-preserved : goal.loop-i-preserved
 loop-i-preserved g c =
     let k = g.C.Cell.reading in
-    let r = read_part k c.width-width.result c.loop-i.rest.now c.split-at.result.0.now c.read.result c.width-width.ensures c.split-at.ensures.front c.read.ensures in
+    let r = read_part k c.width-width.result c.loop-i.rest.now c.split_at.result.0.now c.read.result c.width-width.ensures c.split_at.ensures.front c.read.ensures in
     let y = copied_reads k _ _ _ _ c.loop-i.rest.now _ c.loop-i-test.true c.loop-i.invariant in
     elim c.match-read.branch [
-      | in-Some w ↦ subst (Copied k _ _ _ _ _) (sym w.cells-is) (copied_more k _ _ _ _ c.width-width.result c.loop-i.rest.now c.split-at.result.1.now _ w.in-Some.x c.loop-i-test.true c.width-width.ensures c.split-at.ensures.back (r ∙ w.in-Some.is) c.loop-i.invariant)
-      | in-default w ↦ absurd (both_ways _ (ap is_some (r ∙ w.in-default.is)) y)
+      | in-Some w ↦ subst (Copied k _ _ _ _ _) (sym w.cells-is) (copied_more k _ _ _ _ c.width-width.result c.loop-i.rest.now c.split_at.result.1.now _ w.in-Some.x c.loop-i-test.true c.width-width.ensures c.split_at.ensures.back (r ∙ w.in-Some.is) c.loop-i.invariant)
+      | in_default w ↦ absurd (both_ways _ (ap is_some (r ∙ w.in_default.is)) y)
     ]
 
 pub returns : goal.returns

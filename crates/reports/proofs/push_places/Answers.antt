@@ -11,7 +11,7 @@ loop-place-preserved c =
     let f = place_line c.args.tile in
     let base = vec_items c.args.lines.now in
     let d : Position = record { row = 0; col = 0 } in
-    c.in-ok-push.ensures.items
+    c.in_ok-push.ensures.items
     ∙ (ap (λ xs. xs ++ f (get_or ps i d) ∷ []) c.loop-place.invariant ∙ (append_assoc base (map f (take i ps)) (f (get_or ps i d) ∷ []) ∙ ap (λ ys. base ++ ys) (sym (map_more f ps i d (omega arith)))))
 
 pub returns : goal.returns

@@ -9,11 +9,11 @@ use Rattle.book.proofs.Insertions.{insertion_point_is}
 use Rattle.book.proofs.Accepting.{accepted}
 use Rattle.book.proofs.Book.enter.Goals as goal
 
-pub put-in-requires : goal.put-in-requires
-put-in-requires g c =
+pub put_in-requires : goal.put_in-requires
+put_in-requires g c =
     let b = c.args.self.now in
     let cs = c.args.store.now in
-    let a = accepted g.C.Cell.kind (held b cs) (viewed c.args.tile.now) (sym c.in-default.ensures) in
+    let a = accepted g.C.Cell.kind (held b cs) (viewed c.args.tile.now) (sym c.in_default.ensures) in
     record { few = omega (arith, a.1, tiles-counted b cs 0); valid = a.0; room = omega (arith, a.2, cells_cut (sizes b) cs) }
 
 pub returns : goal.returns
@@ -21,10 +21,10 @@ returns g c =
     let k = g.C.Cell.kind in
     let s = held c.args.self.now c.args.store.now in
     let t = viewed c.args.tile.now in
-    let none = sym c.in-default.ensures in
-    let number = c.put-in.ensures.number in
+    let none = sym c.in_default.ensures in
+    let number = c.put_in.ensures.number in
     record {
-      enters = record { answered = unless_none (enter_refusal k s t) _ _ none number; state = kept_or_none (enter_refusal k s t) _ _ _ none c.put-in.ensures.state };
+      enters = record { answered = unless_none (enter_refusal k s t) _ _ none number; state = kept_or_none (enter_refusal k s t) _ _ _ none c.put_in.ensures.state };
       place = subst (InsertionPoint k t s.tiles) (sym number) (insertion_point_is k t s.tiles);
       untouched = tt;
     }

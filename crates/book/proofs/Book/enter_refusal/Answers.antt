@@ -11,14 +11,14 @@ pub returns-then-self-eq32 : goal.returns-then-self-eq32
 returns-then-self-eq32 g c =
     let b = c.args.self.now in
     let cs = c.args.store.now in
-    full g.C.Cell.kind (held b cs) (viewed c.args.tile.now) (sym c.in-default.ensures) (omega (arith, tiles-counted b cs 0))
+    full g.C.Cell.kind (held b cs) (viewed c.args.tile.now) (sym c.in_default.ensures) (omega (arith, tiles-counted b cs 0))
 
-pub returns-then-store-cells-held : goal.returns-then-store-cells-held
-returns-then-store-cells-held g c =
+pub returns-then-store-cells_held : goal.returns-then-store-cells_held
+returns-then-store-cells_held g c =
     let b = c.args.self.now in
     let cs = c.args.store.now in
     let t = viewed c.args.tile.now in
-    let checked = sym c.in-default.ensures in
+    let checked = sym c.in_default.ensures in
     short g.C.Cell.kind (held b cs) t checked (omega (arith, tiles-counted b cs 0, b.few)) (omega (arith, cells_cut (sizes b) cs, c.cells_held.ensures.cells, (valid_checked t checked).whole))
 
 pub returns-then-holds : goal.returns-then-holds
@@ -26,7 +26,7 @@ returns-then-holds g c =
     let b = c.args.self.now in
     let cs = c.args.store.now in
     let t = viewed c.args.tile.now in
-    let checked = sym c.in-default.ensures in
+    let checked = sym c.in_default.ensures in
     already g.C.Cell.kind (held b cs) t checked (omega (arith, tiles-counted b cs 0, b.few)) (omega (arith, cells_cut (sizes b) cs, c.cells_held.ensures.cells, (valid_checked t checked).whole)) c.if-holds.ensures
 
 pub returns : goal.returns
@@ -34,5 +34,5 @@ returns g c =
     let b = c.args.self.now in
     let cs = c.args.store.now in
     let t = viewed c.args.tile.now in
-    let checked = sym c.in-default.ensures in
+    let checked = sym c.in_default.ensures in
     taken g.C.Cell.kind (held b cs) t checked (omega (arith, tiles-counted b cs 0, b.few)) (omega (arith, cells_cut (sizes b) cs, c.cells_held.ensures.cells, (valid_checked t checked).whole)) c.if-holds.ensures

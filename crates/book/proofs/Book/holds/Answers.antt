@@ -5,19 +5,19 @@ use Rattle.book.proofs.Tables.{tiles-counted}
 use Rattle.book.proofs.Insertions.{not_held, found_held, none_held}
 use Rattle.book.proofs.Book.holds.Goals as goal
 
-pub returns-then-tile-same : goal.returns-then-tile-same
-returns-then-tile-same g c =
+pub returns-then-tile_same : goal.returns-then-tile_same
+returns-then-tile_same g c =
     let b = c.args.self.now in
     let cs = c.args.store.now in
     let n = c.loop-n.n in
-    found_held g.C.Cell.kind (viewed c.args.tile.now) (held b cs).tiles n (viewed c.view.result) (omega (arith, tiles-counted b cs n)) c.view.ensures.tile c.if-tile-same.ensures.answer
+    found_held g.C.Cell.kind (viewed c.args.tile.now) (held b cs).tiles n (viewed c.view.result) (omega (arith, tiles-counted b cs n)) c.view.ensures.tile c.if-tile_same.ensures.answer
 
 pub loop-n-preserved : goal.loop-n-preserved
 loop-n-preserved g c =
     let b = c.args.self.now in
     let cs = c.args.store.now in
     let n = c.loop-n.n in
-    not_held g.C.Cell.kind (viewed c.args.tile.now) (held b cs).tiles n (viewed c.view.result) (omega (arith, tiles-counted b cs n)) c.view.ensures.tile c.if-tile-same.ensures.answer c.loop-n.invariant
+    not_held g.C.Cell.kind (viewed c.args.tile.now) (held b cs).tiles n (viewed c.view.result) (omega (arith, tiles-counted b cs n)) c.view.ensures.tile c.if-tile_same.ensures.answer c.loop-n.invariant
 
 pub returns : goal.returns
 returns g c =

@@ -8,11 +8,11 @@ use Rattle.book.proofs.Accepting.{judge_accepted}
 use Rattle.book.proofs.Judged.{all_exact}
 use Rattle.book.proofs.Book.judge.Goals as goal
 
-pub judge-all-requires : goal.judge-all-requires
-judge-all-requires g c =
+pub judge_all-requires : goal.judge_all-requires
+judge_all-requires g c =
     let b = c.args.self.now in
     let cs = c.args.store.now in
-    let a = judge_accepted (held b cs) (length c.args.work.now) (sym c.in-default.ensures) in
+    let a = judge_accepted (held b cs) (length c.args.work.now) (sym c.in_default.ensures) in
     record { stored = omega (arith, a.0, cells_cut (sizes b) cs); room = a.1 }
 
 pub returns : goal.returns
@@ -21,9 +21,9 @@ returns g c =
     let cs = c.args.store.now in
     let grid = (g.D.Draft.shows c.args.draft.now).grid in
     let o = judge_refusal (held b cs) (length c.args.work.now) in
-    let none = sym c.in-default.ensures in
+    let none = sym c.in_default.ensures in
     let a = judge_accepted (held b cs) (length c.args.work.now) none in
-    let j = c.judge-all.ensures in
+    let j = c.judge_all.ensures in
     record {
       judges = record { answered = unless_none o _ _ none j.answer; state = kept_or_none o _ _ _ none j.state };
       exact = all_exact g.C.Cell.kind g.met.C.Cell.lawful grid b cs (omega (arith, a.0, cells_cut (sizes b) cs));

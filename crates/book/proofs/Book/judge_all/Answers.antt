@@ -10,8 +10,8 @@ loop-n-init g c =
     let tally = g.D.Draft.tally c.args.draft.now in
     (refl, upto_none g.C.Cell.kind g.E.Engine.rule (g.D.Draft.shows c.args.draft.now).grid (held c.args.self.now c.args.store.now).tiles c.args.self.now tally.value tally.fits)
 
-pub judge-tile-sum-requires : goal.judge-tile-sum-requires
-judge-tile-sum-requires g c =
+pub judge_tile-sum-requires : goal.judge_tile-sum-requires
+judge_tile-sum-requires g c =
     let b = c.args.self.now in
     let d = c.loop-n.self in
     let u = c.loop-n.invariant.1 in
@@ -30,12 +30,12 @@ loop-n-preserved g c =
     let cs = c.args.store.now in
     let grid = (g.D.Draft.shows c.args.draft.now).grid in
     let l = c.loop-n in
-    let e = c.judge-tile-sum.ensures in
+    let e = c.judge_tile-sum.ensures in
     let counted = tiles-counted b cs l.n in
     let told = length_told b (λ x. x.stops) in (
       e.same ∙ l.invariant.0,
-      upto_more k rule grid (held b cs).tiles b _ l.n l.self c.judge-tile-sum.new.self l.sum c.judge-tile-sum.result _ _ (omega (arith, counted, c.loop-n-test.true)) (counted ∙ sym told) l.invariant.1
-          (tried_same k rule grid _ l.n cs b l.self c.judge-tile-sum.new.self l.sum c.judge-tile-sum.result _ _ l.invariant.0 l.invariant.1.same_sizes e.tried),
+      upto_more k rule grid (held b cs).tiles b _ l.n l.self c.judge_tile-sum.new.self l.sum c.judge_tile-sum.result _ _ (omega (arith, counted, c.loop-n-test.true)) (counted ∙ sym told) l.invariant.1
+          (tried_same k rule grid _ l.n cs b l.self c.judge_tile-sum.new.self l.sum c.judge_tile-sum.result _ _ l.invariant.0 l.invariant.1.same_sizes e.tried),
     )
 
 pub returns : goal.returns

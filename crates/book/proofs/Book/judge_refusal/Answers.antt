@@ -4,8 +4,8 @@ use Rattle.book.proofs.Cuts.{cells_cut}
 use Rattle.book.proofs.Accepting.{judge_short, judge_work, judge_taken}
 use Rattle.book.proofs.Book.judge_refusal.Goals as goal
 
-pub returns-then-store-cells-held : goal.returns-then-store-cells-held
-returns-then-store-cells-held g c =
+pub returns-then-store-cells_held : goal.returns-then-store-cells_held
+returns-then-store-cells_held g c =
     let b = c.args.self.now in
     let cs = c.args.store.now in
     judge_short (held b cs) c.args.words (omega (arith, cells_cut (sizes b) cs, c.cells_held.ensures.cells))

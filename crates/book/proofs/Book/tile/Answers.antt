@@ -13,8 +13,8 @@ returns-then-number-self g c =
     let n = c.args.number in
     record { tile = unless_some _ 5 _ (no_such_tile (held b cs) n (omega (arith, tiles-counted b cs n))); valid = tt }
 
-pub returns-then-store-cells-held : goal.returns-then-store-cells-held
-returns-then-store-cells-held g c =
+pub returns-then-store-cells_held : goal.returns-then-store-cells_held
+returns-then-store-cells_held g c =
     let b = c.args.self.now in
     let cs = c.args.store.now in
     let n = c.args.number in

@@ -13,13 +13,13 @@ sweep-requires g c =
     let w = length c.args.work.now in
     record {
       drawn = (g.D.Draft.shows c.args.draft.now).drawn;
-      valid = valid_when t w (none_when c.find_refusal.result (find_refusal t w) c.find_refusal.ensures c.in-default.is);
+      valid = valid_when t w (none_when c.find_refusal.result (find_refusal t w) c.find_refusal.ensures c.in_default.is);
     }
 
 pub returns : goal.returns
 returns g c =
     let o = find_refusal (viewed c.args.tile.now) (length c.args.work.now) in
-    let none : o ≡ None = none_when c.find_refusal.result o c.find_refusal.ensures c.in-default.is in
+    let none : o ≡ None = none_when c.find_refusal.result o c.find_refusal.ensures c.in_default.is in
     let a = done_all g.C.Cell.kind (g.D.Draft.shows c.args.draft.now).grid (laid (viewed c.args.tile.now)) c.sweep.result c.args.list.now c.sweep.new.list (g.D.Draft.tally c.args.draft.now).value (g.D.Draft.tally c.sweep.new.draft).value c.sweep.ensures.done in
     record {
       answer = unless_none o _ _ none a.found;

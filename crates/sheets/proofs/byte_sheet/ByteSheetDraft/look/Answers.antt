@@ -15,7 +15,7 @@ returns-then-col-self g c =
     let s = c.args.self.now in
     let k = g.row.C-Cell.reading in
     record {
-      cell = ap Some (c.unwrap-or.ensures ∙ ap (λ o. unwrap_or o s.corner) (c.read-cell.ensures ∙ ap (λ m. k.reads (take m (drop ((c.args.row * s.cols + c.args.col) * s.width) s.bytes.now))) (omega arith))) ∙ sym (at_place k s.rows s.cols s.width s.bytes.now s.corner c.args.row c.args.col c.if-row-self.true c.if-col-self.true);
+      cell = ap Some (c.unwrap_or.ensures ∙ ap (λ o. unwrap_or o s.corner) (c.read-cell.ensures ∙ ap (λ m. k.reads (take m (drop ((c.args.row * s.cols + c.args.col) * s.width) s.bytes.now))) (omega arith))) ∙ sym (at_place k s.rows s.cols s.width s.bytes.now s.corner c.args.row c.args.col c.if-row-self.true c.if-col-self.true);
       same = search rules;
       counts = grind (arith, nat_tests);
     }

@@ -13,13 +13,13 @@ slice-bounds-read-end g c =
     let h = part_within 0 (c.args.rows * c.args.cols) c.width-width.result n in
     search rules
 
-pub returns-in-default : goal.returns-in-default
-returns-in-default g c =
+pub returns-in_default : goal.returns-in_default
+returns-in_default g c =
     let k = g.row.C-Cell.reading in
     let bs = c.args.bytes.now in
     let s : Drawable c.args.rows c.args.cols = (omega arith, omega arith, omega arith, omega arith) in
     let l : length bs ≡ c.args.rows * c.args.cols * k.width = c.if-bytes-rows.false ∙ ap (λ w. c.args.rows * c.args.cols * w) c.width-width.ensures in
-    let e = unread k c.args.rows c.args.cols bs s l (corner_none k (c.args.rows * c.args.cols) c.width-width.result bs c.read.result (some_cells c.args.rows c.args.cols s) c.width-width.ensures c.read.ensures c.in-default.is) in
+    let e = unread k c.args.rows c.args.cols bs s l (corner_none k (c.args.rows * c.args.cols) c.width-width.result bs c.read.result (some_cells c.args.rows c.args.cols s) c.width-width.ensures c.read.ensures c.in_default.is) in
     record { shows = unless_some _ _ _ e; new = unless_some _ _ _ e }
 
 pub returns : goal.returns
@@ -28,7 +28,7 @@ returns g c =
     let bs = c.args.bytes.now in
     let s : Drawable c.args.rows c.args.cols = (omega arith, omega arith, omega arith, omega arith) in
     let l : length bs ≡ c.args.rows * c.args.cols * k.width = c.if-bytes-rows.false ∙ ap (λ w. c.args.rows * c.args.cols * w) c.width-width.ensures in
-    let r = sym c.if-not-all-read.ensures in
+    let r = sym c.if-not-all_read.ensures in
     let none : bytes_refusal k c.args.rows c.args.cols bs ≡ None = accepted k c.args.rows c.args.cols bs s l r in
     let e = parts_read k (c.args.rows * c.args.cols) c.width-width.result bs c.in-Some.corner c.width-width.ensures r in
     record { shows = unless_none _ _ _ none (ap (sheet c.args.rows c.args.cols) e); new = unless_none _ _ _ none refl }
