@@ -11,8 +11,8 @@ use Rattle.plain.proofs.compare.Goals as goal
 pub bounds-cells-i : goal.bounds-cells-i
 bounds-cells-i g c = place_within c.args.tile.now.rows c.args.tile.now.cols c.tile.i c.loop-j.j _ c.requires.ready.valid.whole c.tile-test.true c.loop-j-test.true
 
-pub offset-bounds-cells-i : goal.offset-bounds-cells-i
-offset-bounds-cells-i g c = let h = place_within c.args.tile.now.rows c.args.tile.now.cols c.tile.i c.loop-j.j _ c.requires.ready.valid.whole c.tile-test.true c.loop-j-test.true in omega arith
+pub offset_bounds-cells-i : goal.offset_bounds-cells-i
+offset_bounds-cells-i g c = let h = place_within c.args.tile.now.rows c.args.tile.now.cols c.tile.i c.loop-j.j _ c.requires.ready.valid.whole c.tile-test.true c.loop-j-test.true in omega arith
 
 pub loop-j-preserved : goal.loop-j-preserved
 loop-j-preserved g c = (

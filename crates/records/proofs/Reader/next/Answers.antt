@@ -5,20 +5,20 @@ use Rattle.records.specs.Fronts.{next_answer, handed_on, moved_to}
 use Rattle.records.proofs.Fronting.{front_whole, front_faulty}
 use Rattle.records.proofs.Reader.next.Goals as goal
 
-pub overflow-sub-self : goal.overflow-sub-self
-overflow-sub-self g c =
+pub overflow_sub-self : goal.overflow_sub-self
+overflow_sub-self g c =
     let bs = c.args.self.now.rest.now in
     let some : 0 < length bs = search rules in
     let p = front_whole g.C.Cell.reading bs some (entry c.in-Ok.record) c.in-Ok.rest.now c.in-Ok.ensures in
     omega (arith, p.shorter)
 
-pub invariant-of-self : goal.invariant-of-self
-invariant-of-self g c =
+pub invariant_of-self : goal.invariant_of-self
+invariant_of-self g c =
     let r = c.args.self.now in
     let bs = r.rest.now in
     let some : 0 < length bs = search rules in
     let p = front_whole g.C.Cell.reading bs some (entry c.in-Ok.record) c.in-Ok.rest.now c.in-Ok.ensures in
-    (omega (arith, p.shorter, r.fits), tt)
+    record { fits = omega (arith, p.shorter, r.fits) }
 
 pub returns-in-Ok : goal.returns-in-Ok
 returns-in-Ok g c =

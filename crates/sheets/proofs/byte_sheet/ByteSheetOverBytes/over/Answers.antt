@@ -6,8 +6,8 @@ use Rattle.sheets.proofs.Accepted.{some_cells, accepted, unread, corner_none}
 use Rattle.sheets.proofs.CellParts.{parts_read, part_within}
 use Rattle.sheets.proofs.byte_sheet.ByteSheetOverBytes.over.Goals as goal
 
-pub slice-bounds-read-end : goal.slice-bounds-read-end
-slice-bounds-read-end g c =
+pub slice_bounds-read-end : goal.slice_bounds-read-end
+slice_bounds-read-end g c =
     let s : Drawable c.args.rows c.args.cols = (omega arith, omega arith, omega arith, omega arith) in
     let n = some_cells c.args.rows c.args.cols s in
     let h = part_within 0 (c.args.rows * c.args.cols) c.width-width.result n in
@@ -15,7 +15,7 @@ slice-bounds-read-end g c =
 
 pub returns-in_default : goal.returns-in_default
 returns-in_default g c =
-    let k = g.row.C-Cell.reading in
+    let k = g.C.Cell.reading in
     let bs = c.args.bytes.now in
     let s : Drawable c.args.rows c.args.cols = (omega arith, omega arith, omega arith, omega arith) in
     let l : length bs ≡ c.args.rows * c.args.cols * k.width = c.if-bytes-rows.false ∙ ap (λ w. c.args.rows * c.args.cols * w) c.width-width.ensures in
@@ -24,7 +24,7 @@ returns-in_default g c =
 
 pub returns : goal.returns
 returns g c =
-    let k = g.row.C-Cell.reading in
+    let k = g.C.Cell.reading in
     let bs = c.args.bytes.now in
     let s : Drawable c.args.rows c.args.cols = (omega arith, omega arith, omega arith, omega arith) in
     let l : length bs ≡ c.args.rows * c.args.cols * k.width = c.if-bytes-rows.false ∙ ap (λ w. c.args.rows * c.args.cols * w) c.width-width.ensures in

@@ -7,8 +7,8 @@ use Rattle.sheets.proofs.cell_sheet.CellSheetDraft.look.Goals as goal
 pub bounds-self-row : goal.bounds-self-row
 bounds-self-row g c = place_within c.args.self.now.rows c.args.self.now.cols c.args.row c.args.col _ c.args.self.now.whole c.if-row-self.true c.if-col-self.true
 
-pub offset-bounds-self-row : goal.offset-bounds-self-row
-offset-bounds-self-row g c =
+pub offset_bounds-self-row : goal.offset_bounds-self-row
+offset_bounds-self-row g c =
     let h = place_within c.args.self.now.rows c.args.self.now.cols c.args.row c.args.col _ c.args.self.now.whole c.if-row-self.true c.if-col-self.true in
     search rules
 
