@@ -10,10 +10,10 @@ use Rattle.book_report.proofs.Stores.{file-alike}
 use Rattle.book_report.proofs.book_report.Goals as goal
 
 pub returns-in_err-cells : goal.returns-in_err-cells
-returns-in_err-cells g c = let p = err_from_is_err_and c.from-residual-in_err-cells.result c.from-residual-in_err-cells.ensures.1 in rw p.1 tt
+returns-in_err-cells g c = let p = err_from_is_err_and c.from_residual-in_err-cells.result c.from_residual-in_err-cells.ensures.1 in rw p.1 tt
 
 pub returns-in_err-store : goal.returns-in_err-store
-returns-in_err-store g c = let p = err_from_is_err_and c.from-residual-in_err-store.result c.from-residual-in_err-store.ensures.1 in rw p.1 tt
+returns-in_err-store g c = let p = err_from_is_err_and c.from_residual-in_err-store.result c.from_residual-in_err-store.ensures.1 in rw p.1 tt
 
 pub returns : goal.returns
 returns g c =

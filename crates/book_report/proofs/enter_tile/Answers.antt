@@ -10,8 +10,8 @@ use Rattle.reports.proofs.Cells.{reads_in, front-tile, sound_few}
 use Rattle.book_report.specs.Report.{enter_line}
 use Rattle.book_report.proofs.enter_tile.Goals as goal
 
-pub overflow-mul-count : goal.overflow-mul-count
-overflow-mul-count g c = omega (arith, sound_few g.C.Cell.reading (entry_of tile-mark c.args.body.now) c.requires.sound)
+pub overflow_mul-count : goal.overflow_mul-count
+overflow_mul-count g c = omega (arith, sound_few g.C.Cell.reading (entry_of tile-mark c.args.body.now) c.requires.sound)
 
 pub unreachable-requires : goal.unreachable-requires
 unreachable-requires g c =

@@ -24,7 +24,7 @@ loop-next-smaller g c = shrinks g.C.Cell.reading c.loop-next.reader.at c.loop-ne
 
 pub loop-next-preserved : goal.loop-next-preserved
 loop-next-preserved g c =
-    let p = c.in_ok-report_record.ensures in
+    let p = c.in_ok-report_record-in-Ok.ensures in
     let S : Held _ → Type 0 = λ s. Stored s in
     let e = entry c.in-Some.«record» in (
       reached_more c.loop-next.invariant.0 (answer_is c.in-Some.is c.in-Ok.ensures.answer) p.state c.next.ensures.at c.next.ensures.rest p.lines,
@@ -36,4 +36,4 @@ returns-in_default g c = reached_end c.loop-next.invariant.0 (answer_is c.in_def
 
 pub returns-in-Err : goal.returns-in-Err
 returns-in-Err g c =
-    reached_fault c.loop-next.invariant.0 c.in-Err.ensures.answer (c.in_ok-push.ensures.items ∙ ap (λ n. vec_items c.loop-next.lines ++ (Fault n c.in-Err.fault.at ∷ [])) c.number.ensures)
+    reached_fault c.loop-next.invariant.0 c.in-Err.ensures.answer (c.in_ok-push-in-Err.ensures.items ∙ ap (λ n. vec_items c.loop-next.lines ++ (Fault n c.in-Err.fault.at ∷ [])) c.number.ensures)

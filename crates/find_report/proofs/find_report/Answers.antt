@@ -6,7 +6,7 @@ use Rattle.find_report.proofs.Files.{report_short, report_long}
 use Rattle.find_report.proofs.find_report.Goals as goal
 
 pub returns-in_err-cells : goal.returns-in_err-cells
-returns-in_err-cells g c = let p = err_from_is_err_and c.from-residual-in_err-cells.result c.from-residual-in_err-cells.ensures.1 in rw p.1 tt
+returns-in_err-cells g c = let p = err_from_is_err_and c.from_residual-in_err-cells.result c.from_residual-in_err-cells.ensures.1 in rw p.1 tt
 
 pub returns : goal.returns
 returns g c =

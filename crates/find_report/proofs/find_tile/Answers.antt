@@ -27,8 +27,8 @@ returns g c =
     let f = finds g.C.Cell.kind g.E.Engine.rule grid t (length c.args.work.now) (sound_valid r e c.requires.sound) c.requires.room.0 (tile b.rows b.cols cells) c.in-Ok-find.found c.args.list.now c.find.new.list v c.requires.long c.in-Ok-find.ensures.answer c.find.ensures.listing in
     record { answer = f.answer; listing = f.listing; few = f.few; same = c.find.ensures.same }
 
-pub overflow-mul-count : goal.overflow-mul-count
-overflow-mul-count g c = omega (arith, sound_few g.C.Cell.reading (entry_of tile-mark c.args.body.now) c.requires.sound)
+pub overflow_mul-count : goal.overflow_mul-count
+overflow_mul-count g c = omega (arith, sound_few g.C.Cell.reading (entry_of tile-mark c.args.body.now) c.requires.sound)
 
 pub unreachable-requires-in_default-find : goal.unreachable-requires-in_default-find
 unreachable-requires-in_default-find g c =

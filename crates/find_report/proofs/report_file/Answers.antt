@@ -22,7 +22,7 @@ loop-next-smaller g c =
 pub loop-next-preserved : goal.loop-next-preserved
 loop-next-preserved g c =
     let l = c.loop-next in
-    let p = c.in_ok-report_record.ensures in
+    let p = c.in_ok-report_record-in-Ok.ensures in
     reached_more g.C.Cell.kind g.C.Cell.reading g.E.Engine.rule c.args.input.now (vec_items l.tiles) l.reader.at l.reader.rest.now (vec_items l.lines) (entry c.in-Some.record) (ap (λ o. Ok (option_map entry o)) (sym c.in-Some.is) ∙ c.in-Ok.ensures.answer) l.invariant
     (vec_items c.report_record.new.tiles) c.next.new.self.at c.next.new.self.rest.now (vec_items c.report_record.new.lines) c.next.ensures.at c.next.ensures.rest p.tiles p.lines p.sound
 
@@ -36,4 +36,4 @@ returns-in-Err g c =
     let l = c.loop-next in
     let f = c.in-Err.fault in
     reached_fault g.C.Cell.kind g.C.Cell.reading g.E.Engine.rule c.args.input.now (vec_items l.tiles) l.reader.at l.reader.rest.now (vec_items l.lines) (vec_items c.push.new.self) (fault_at f) c.in-Err.ensures.answer
-    (c.in_ok-push.ensures.items ∙ ap (λ n. vec_items l.lines ++ (Fault n f.at ∷ [])) c.number.ensures) l.invariant
+    (c.in_ok-push-in-Err.ensures.items ∙ ap (λ n. vec_items l.lines ++ (Fault n f.at ∷ [])) c.number.ensures) l.invariant

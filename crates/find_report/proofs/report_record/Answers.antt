@@ -21,8 +21,8 @@ report_draft-requires g c =
       room = c.requires.room;
     }
 
-pub returns-in_ok-push : goal.returns-in_ok-push
-returns-in_ok-push g c =
+pub returns-in_ok-push-in-Tile : goal.returns-in_ok-push-in-Tile
+returns-in_ok-push-in-Tile g c =
     let k = g.C.Cell.kind in
     let r = g.C.Cell.reading in
     let rule = g.E.Engine.rule in
@@ -30,7 +30,7 @@ returns-in_ok-push g c =
     let us = vec_items c.push.new.self in
     let old = vec_items c.args.lines.now in
     let body = c.in-Tile.body in
-    let items = c.in_ok-push.ensures.items in
+    let items = c.in_ok-push-in-Tile.ensures.items in
     let P : Record → Type 0 = λ x. Sound r (limit (entry x).mark) (entry x) in
     let Q : List Body → Type 0 = λ bs. All (λ b. Sound r 32 (entry_of tile-mark b)) bs in
     let R : Record → Type 0 = λ x. Reported k r rule (entry x) ts us old old in

@@ -44,8 +44,8 @@ loop-n-preserved g c =
 pub returns : goal.returns
 returns g c = searched_all g.C.Cell.kind g.C.Cell.reading g.E.Engine.rule _ c.args.tiles.now _ _ _ _ (omega arith) c.loop-n.invariant.0
 
-pub shape-of-list : goal.shape-of-list
-shape-of-list g c = c.loop-n.invariant.1
+pub shape_of-list : goal.shape_of-list
+shape_of-list g c = c.loop-n.invariant.1
 
-pub shape-of-list-in_err-push_tile : goal.shape-of-list-in_err-push_tile
-shape-of-list-in_err-push_tile g c = c.find_tile-places.auto.list ∙ c.loop-n.invariant.1
+pub shape_of-list-in_err-push_tile : goal.shape_of-list-in_err-push_tile
+shape_of-list-in_err-push_tile g c = c.find_tile-places.auto.list ∙ c.loop-n.invariant.1
