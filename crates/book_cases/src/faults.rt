@@ -2,8 +2,8 @@
 use crate::prints::{DR, Record, TL, Written, push_records, verify_print};
 use crate::table::{Case, verify_all};
 use cells::{Lift, Thread};
-use std::alloc::Global;
-use std::test::*;
+use std::process::Abort;
+use std::test::Fail;
 
 /// A fault: its number, and files of either kind of which each has it.
 struct Faulty(u8, &'static [&'static [u8]]);
@@ -82,46 +82,54 @@ static NO_LIFTS: [NoLift; 4] = [
 
 // Checks a fault after some records.
 fn verify_after<C: Written>(
-    heap: Global,
+    rt: &(impl Abort + AllocGlobal),
+    at: &str,
     records: &[Record],
     lines: &str,
     rest: &[u8],
     number: u8,
 ) -> Result<(), Fail> {
+    let heap = rt.alloc();
     let mut file = Vec::new(heap);
     push_records::<C>(&mut file, records)?;
-    let at = file.len();
+    let byte = file.len();
     file.extend_from_slice(rest)?;
-    let text = format!(in heap; "{lines}fault {number} at {at}\n")?;
-    verify_print::<C>(heap, file.as_slice(), text.as_str())
+    let text = format!(in heap; "{lines}fault {number} at {byte}\n")?;
+    verify_print::<C>(rt, at, file.as_slice(), text.as_str())
 }
 
 // Checks a fault in the first record and after others.
-fn verify_fault<C: Written>(heap: Global, file: &[u8], number: u8) -> Result<(), Fail> {
-    verify_after::<C>(heap, &[], "", file, number)?;
-    verify_after::<C>(heap, &FRONT, FRONT_LINES, file, number)
+fn verify_fault<C: Written>(
+    rt: &(impl Abort + AllocGlobal),
+    at: &str,
+    file: &[u8],
+    number: u8,
+) -> Result<(), Fail> {
+    verify_after::<C>(rt, at, &[], "", file, number)?;
+    verify_after::<C>(rt, at, &FRONT, FRONT_LINES, file, number)
 }
 
 impl Case for Faulty {
-    fn verify(&self, heap: Global) -> Result<(), Fail> {
+    fn verify(&self, rt: &(impl Abort + AllocGlobal), at: &str) -> Result<(), Fail> {
         let Faulty(number, files) = self;
         for (i, file) in files.iter().enumerate() {
-            verify_fault::<Lift>(heap, *file, *number).note(format_args!("file {i}"))?;
-            verify_fault::<Thread>(heap, *file, *number).note(format_args!("file {i}"))?;
+            let at = format!(in rt.alloc(); "{at}, file {i}")?;
+            verify_fault::<Lift>(rt, at.as_str(), *file, *number)?;
+            verify_fault::<Thread>(rt, at.as_str(), *file, *number)?;
         }
         Ok(())
     }
 }
 
 impl Case for NoLift {
-    fn verify(&self, heap: Global) -> Result<(), Fail> {
+    fn verify(&self, rt: &(impl Abort + AllocGlobal), at: &str) -> Result<(), Fail> {
         let NoLift(file) = self;
-        verify_fault::<Lift>(heap, *file, 12)
+        verify_fault::<Lift>(rt, at, *file, 12)
     }
 }
 
 #[test]
 fn faults_end_the_lines(rt: HostRuntime) -> Result<(), Fail> {
-    verify_all(rt.alloc(), &FAULTS)?;
-    verify_all(rt.alloc(), &NO_LIFTS)
+    verify_all(&rt, &FAULTS)?;
+    verify_all(&rt, &NO_LIFTS)
 }

@@ -8,8 +8,8 @@ use grids::Refusal;
 use plain::Plain;
 use readings::read_cells;
 use sheets::ByteSheet;
-use std::alloc::Global;
-use std::test::*;
+use std::process::Abort;
+use std::test::Fail;
 
 /// Rows, columns, and the cells as file bytes.
 struct Drawn(usize, usize, &'static [u8]);
@@ -82,15 +82,19 @@ fn enter<C: Cell>(
 
 // Enters tiles, each of which takes the next number.
 fn enter_all<C: Cell + Clone + Default>(
-    heap: Global,
+    rt: &(impl Abort + AllocGlobal),
+    at: &str,
     book: &mut Book,
     store: &mut [C],
     tiles: &[Drawn],
 ) -> Result<(), Fail> {
     for (n, tile) in tiles.iter().enumerate() {
         let Drawn(_, _, bytes) = tile;
-        let mut cells = vec![in heap; C::default(); bytes.len()]?;
-        assert!(enter(book, store, tile, cells.as_mut_slice()) == Ok(n));
+        let mut cells = vec![in rt.alloc(); C::default(); bytes.len()]?;
+        assert!(rt;
+            enter(book, store, tile, cells.as_mut_slice()) == Ok(n),
+            "{at}"
+        );
     }
     Ok(())
 }
@@ -112,25 +116,25 @@ fn judge<C: Cell>(
 }
 
 // Checks the stop count of each tile, each raised so many times.
-fn verify_stops(book: &Book, stops: &[u16], times: u16) -> Result<(), Fail> {
+fn verify_stops(rt: &(impl Abort + AllocGlobal), at: &str, book: &Book, stops: &[u16], times: u16) {
     for (n, count) in stops.iter().enumerate() {
-        assert!(book.stops(n) == Ok(count.saturating_mul(times)));
+        assert!(rt; book.stops(n) == Ok(count.saturating_mul(times)), "{at}");
     }
-    assert!(book.count() == stops.len());
-    Ok(())
+    assert!(rt; book.count() == stops.len(), "{at}");
 }
 
 impl Case for Judged {
-    fn verify(&self, heap: Global) -> Result<(), Fail> {
+    fn verify(&self, rt: &(impl Abort + AllocGlobal), at: &str) -> Result<(), Fail> {
         let Judged(tiles, draft, found, looks, stops) = self;
+        let heap = rt.alloc();
         let mut store = vec![in heap; Lift::default(); 64]?;
         let mut work = vec![in heap; 7u32; 12288]?;
         let mut book = Book::new();
-        enter_all(heap, &mut book, store.as_mut_slice(), *tiles)?;
+        enter_all(rt, at, &mut book, store.as_mut_slice(), *tiles)?;
         for times in 1..3u16 {
             let answer = judge(&mut book, store.as_slice(), draft, work.as_mut_slice());
-            assert!(answer == Ok((*found, *looks)));
-            verify_stops(&book, *stops, times)?;
+            assert!(rt; answer == Ok((*found, *looks)), "{at}");
+            verify_stops(rt, at, &book, *stops, times);
         }
         Ok(())
     }
@@ -138,5 +142,5 @@ impl Case for Judged {
 
 #[test]
 fn judge_counts_tiles_and_looks_and_raises_stop_counts(rt: HostRuntime) -> Result<(), Fail> {
-    verify_all(rt.alloc(), &JUDGED)
+    verify_all(&rt, &JUDGED)
 }

@@ -2,9 +2,9 @@
 use crate::prints::{DR, Record, TL, Written, push_record, push_records, verify_print};
 use crate::table::{Case, verify_all};
 use cells::{Lift, Thread};
-use std::alloc::Global;
 use std::fmt;
-use std::test::*;
+use std::process::Abort;
+use std::test::Fail;
 
 /// A file that begins with so many tiles of 1 row, each with a column less than the one before it and
 /// the last with 1 column; the records after them, and what is printed of these.
@@ -166,14 +166,19 @@ fn push_rows<C: Written>(file: &mut Vec<u8>, text: &mut String, tiles: u16) -> R
     Ok(())
 }
 
-fn verify_filled<C: Written>(heap: Global, case: &Filled) -> Result<(), Fail> {
+fn verify_filled<C: Written>(
+    rt: &(impl Abort + AllocGlobal),
+    at: &str,
+    case: &Filled,
+) -> Result<(), Fail> {
     let Filled(tiles, records, lines) = case;
+    let heap = rt.alloc();
     let mut file = Vec::new(heap);
     let mut text = String::new(heap);
     push_rows::<C>(&mut file, &mut text, *tiles)?;
     push_records::<C>(&mut file, *records)?;
     text.push_str(*lines)?;
-    verify_print::<C>(heap, file.as_slice(), text.as_str())
+    verify_print::<C>(rt, at, file.as_slice(), text.as_str())
 }
 
 // Adds the lines of places at every position of a row.
@@ -192,8 +197,13 @@ fn push_places(text: &mut String, tile: u8, rows: u16, cols: u16) -> Result<(), 
     Ok(())
 }
 
-fn verify_places<C: Written>(heap: Global, case: &Places) -> Result<(), Fail> {
+fn verify_places<C: Written>(
+    rt: &(impl Abort + AllocGlobal),
+    at: &str,
+    case: &Places,
+) -> Result<(), Fail> {
     let Places((rows, cols), first, second) = case;
+    let heap = rt.alloc();
     let records = [
         Record(TL, 1, 1, b"#", 1),
         Record(TL, 2, 1, b"##", 1),
@@ -205,46 +215,47 @@ fn verify_places<C: Written>(heap: Global, case: &Places) -> Result<(), Fail> {
     push_places(&mut text, 0, *first, *cols)?;
     push_places(&mut text, 1, *second, *cols)?;
     write!(text, "draft {rows} {cols} stopped 2\n")?;
-    verify_print::<C>(heap, file.as_slice(), text.as_str())
+    verify_print::<C>(rt, at, file.as_slice(), text.as_str())
 }
 
 impl Case for Filled {
-    fn verify(&self, heap: Global) -> Result<(), Fail> {
-        verify_filled::<Lift>(heap, self)?;
-        verify_filled::<Thread>(heap, self)
+    fn verify(&self, rt: &(impl Abort + AllocGlobal), at: &str) -> Result<(), Fail> {
+        verify_filled::<Lift>(rt, at, self)?;
+        verify_filled::<Thread>(rt, at, self)
     }
 }
 
 impl Case for Places {
-    fn verify(&self, heap: Global) -> Result<(), Fail> {
-        verify_places::<Lift>(heap, self)?;
-        verify_places::<Thread>(heap, self)
+    fn verify(&self, rt: &(impl Abort + AllocGlobal), at: &str) -> Result<(), Fail> {
+        verify_places::<Lift>(rt, at, self)?;
+        verify_places::<Thread>(rt, at, self)
     }
 }
 
 impl Case for Long {
-    fn verify(&self, heap: Global) -> Result<(), Fail> {
+    fn verify(&self, rt: &(impl Abort + AllocGlobal), at: &str) -> Result<(), Fail> {
         let Long(kind, front, count, text) = self;
+        let heap = rt.alloc();
         let mut file = front.to_vec(heap)?;
         file.extend_from_slice(vec![in heap; b'#'; *count]?.as_slice())?;
         match kind {
-            Kind::Lifts => verify_print::<Lift>(heap, file.as_slice(), *text),
-            Kind::Threads => verify_print::<Thread>(heap, file.as_slice(), *text),
+            Kind::Lifts => verify_print::<Lift>(rt, at, file.as_slice(), *text),
+            Kind::Threads => verify_print::<Thread>(rt, at, file.as_slice(), *text),
         }
     }
 }
 
 #[test]
 fn books_and_stores_are_filled_up_to_their_limits(rt: HostRuntime) -> Result<(), Fail> {
-    verify_all(rt.alloc(), &FILLED)
+    verify_all(&rt, &FILLED)
 }
 
 #[test]
 fn at_most_64_places_of_each_tile_are_printed(rt: HostRuntime) -> Result<(), Fail> {
-    verify_all(rt.alloc(), &PLACES)
+    verify_all(&rt, &PLACES)
 }
 
 #[test]
 fn files_are_read_up_to_65535_bytes(rt: HostRuntime) -> Result<(), Fail> {
-    verify_all(rt.alloc(), &LONG_FILES)
+    verify_all(&rt, &LONG_FILES)
 }

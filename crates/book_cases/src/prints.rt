@@ -3,8 +3,9 @@ use book_report::book_report;
 use cells::{Cell, Lift, Thread};
 use lines::render;
 use plain::Plain;
-use std::alloc::{AllocError, Global};
-use std::test::*;
+use std::alloc::AllocError;
+use std::process::Abort;
+use std::test::Fail;
 
 /// A record: its mark, rows and columns, signs `#` and `.` for cells, and how often the signs stand.
 #[derive(Clone, Copy)]
@@ -77,9 +78,15 @@ pub(crate) fn push_records<C: Written>(
 }
 
 /// Checks what is printed of a file.
-pub(crate) fn verify_print<C: Written>(heap: Global, file: &[u8], text: &str) -> Result<(), Fail> {
+pub(crate) fn verify_print<C: Written>(
+    rt: &(impl Abort + AllocGlobal),
+    at: &str,
+    file: &[u8],
+    text: &str,
+) -> Result<(), Fail> {
+    let heap = rt.alloc();
     let lines = book_report::<C, Plain>(heap, &Plain, file)?;
     let printed = render(heap, lines.as_slice())?;
-    assert_eq!(printed.as_str(), text);
+    assert_eq!(rt; printed.as_str(), text, "{at}");
     Ok(())
 }

@@ -2,8 +2,8 @@
 use crate::prints::{DR, Record, TL, Written, push_records, verify_print};
 use crate::table::{Case, verify_all};
 use cells::{Lift, Thread};
-use std::alloc::Global;
-use std::test::*;
+use std::process::Abort;
+use std::test::Fail;
 
 /// The records of a file, and what is printed of it, whichever kind they are written in.
 struct Report(&'static [Record], &'static str);
@@ -153,29 +153,34 @@ static THREADS: [Threads; 6] = [
     ),
 ];
 
-fn verify_records<C: Written>(heap: Global, report: &Report) -> Result<(), Fail> {
+fn verify_records<C: Written>(
+    rt: &(impl Abort + AllocGlobal),
+    at: &str,
+    report: &Report,
+) -> Result<(), Fail> {
     let Report(records, text) = report;
+    let heap = rt.alloc();
     let mut file = Vec::new(heap);
     push_records::<C>(&mut file, *records)?;
-    verify_print::<C>(heap, file.as_slice(), *text)
+    verify_print::<C>(rt, at, file.as_slice(), *text)
 }
 
 impl Case for Report {
-    fn verify(&self, heap: Global) -> Result<(), Fail> {
-        verify_records::<Lift>(heap, self)?;
-        verify_records::<Thread>(heap, self)
+    fn verify(&self, rt: &(impl Abort + AllocGlobal), at: &str) -> Result<(), Fail> {
+        verify_records::<Lift>(rt, at, self)?;
+        verify_records::<Thread>(rt, at, self)
     }
 }
 
 impl Case for Threads {
-    fn verify(&self, heap: Global) -> Result<(), Fail> {
+    fn verify(&self, rt: &(impl Abort + AllocGlobal), at: &str) -> Result<(), Fail> {
         let Threads(file, text) = self;
-        verify_print::<Thread>(heap, *file, *text)
+        verify_print::<Thread>(rt, at, *file, *text)
     }
 }
 
 #[test]
 fn files_print_their_lines(rt: HostRuntime) -> Result<(), Fail> {
-    verify_all(rt.alloc(), &REPORTS)?;
-    verify_all(rt.alloc(), &THREADS)
+    verify_all(&rt, &REPORTS)?;
+    verify_all(&rt, &THREADS)
 }

@@ -2,8 +2,8 @@
 use crate::reports::{K, verify_print};
 use crate::table::{Case, verify_all};
 use cells::Lift;
-use std::alloc::Global;
-use std::test::*;
+use std::process::Abort;
+use std::test::Fail;
 
 /// A fault: what is printed where it is in the first record, and where it is in the record after K;
 /// and files of which each has it.
@@ -109,10 +109,11 @@ static FAULTS: [Faulty; 5] = [
 ];
 
 impl Case for Faulty {
-    fn verify(&self, heap: Global) -> Result<(), Fail> {
+    fn verify(&self, rt: &(impl Abort + AllocGlobal), at: &str) -> Result<(), Fail> {
         for (i, file) in self.files.iter().enumerate() {
-            verify_print::<Lift>(heap, b"", *file, self.first).note(format_args!("file {i}"))?;
-            verify_print::<Lift>(heap, K, *file, self.after_k).note(format_args!("file {i}"))?;
+            let at = format!(in rt.alloc(); "{at}, file {i}")?;
+            verify_print::<Lift>(rt, at.as_str(), b"", *file, self.first)?;
+            verify_print::<Lift>(rt, at.as_str(), K, *file, self.after_k)?;
         }
         Ok(())
     }
@@ -120,5 +121,5 @@ impl Case for Faulty {
 
 #[test]
 fn faults_tell_their_number_and_the_byte_of_their_record(rt: HostRuntime) -> Result<(), Fail> {
-    verify_all(rt.alloc(), &FAULTS)
+    verify_all(&rt, &FAULTS)
 }

@@ -6,8 +6,8 @@ use engine::TileView;
 use grids::{Position, Refusal};
 use plain::find;
 use sheets::CellSheet;
-use std::alloc::Global;
-use std::test::*;
+use std::process::Abort;
+use std::test::Fail;
 
 /// A find in a draft, where the draft and the tile have one cell everywhere: rows and columns of the
 /// draft; rows, columns and count of cells of the tile; the words of the work table; the answer,
@@ -108,7 +108,12 @@ fn found<C: Cell>(
     Ok((answer.places, answer.looks))
 }
 
-fn verify_find<C: Cell + Clone + Default>(heap: Global, case: &Find) -> Result<(), Fail> {
+fn verify_find<C: Cell + Clone + Default>(
+    rt: &(impl Abort + AllocGlobal),
+    at: &str,
+    case: &Find,
+) -> Result<(), Fail> {
+    let heap = rt.alloc();
     let Find((height, width), (rows, cols, count), words, answer, listed) = case;
     let area = vec![in heap; C::default(); height.saturating_mul(*width)]?;
     let cells = vec![in heap; C::default(); *count]?;
@@ -126,30 +131,30 @@ fn verify_find<C: Cell + Clone + Default>(heap: Global, case: &Find) -> Result<(
     let mut list = [M; 2];
     let got = found(&draft, &tile, work.as_mut_slice(), &mut list);
     let [first, second] = list;
-    assert!(got == *answer && (first, second) == *listed);
+    assert!(rt; got == *answer && (first, second) == *listed, "{at}");
     Ok(())
 }
 
 impl Case for Find {
-    fn verify(&self, heap: Global) -> Result<(), Fail> {
-        verify_find::<Lift>(heap, self)?;
-        verify_find::<Thread>(heap, self)
+    fn verify(&self, rt: &(impl Abort + AllocGlobal), at: &str) -> Result<(), Fail> {
+        verify_find::<Lift>(rt, at, self)?;
+        verify_find::<Thread>(rt, at, self)
     }
 }
 
 impl Case for Refused {
-    fn verify(&self, heap: Global) -> Result<(), Fail> {
+    fn verify(&self, rt: &(impl Abort + AllocGlobal), at: &str) -> Result<(), Fail> {
         let Refused(tile, words, refusal) = self;
-        Find((40, 40), *tile, *words, Err(*refusal), (M, M)).verify(heap)
+        Find((40, 40), *tile, *words, Err(*refusal), (M, M)).verify(rt, at)
     }
 }
 
 #[test]
 fn finds_answer_all_places_and_list_those_that_fit(rt: HostRuntime) -> Result<(), Fail> {
-    verify_all(rt.alloc(), &FINDS)
+    verify_all(&rt, &FINDS)
 }
 
 #[test]
 fn refused_finds_leave_the_list(rt: HostRuntime) -> Result<(), Fail> {
-    verify_all(rt.alloc(), &REFUSED)
+    verify_all(&rt, &REFUSED)
 }

@@ -3,9 +3,9 @@ use crate::table::{Case, verify_all};
 use cells::{Lift, Thread};
 use grids::Refusal;
 use readings::read_cells;
-use std::alloc::Global;
 use std::cmp::Ordering;
-use std::test::*;
+use std::process::Abort;
+use std::test::Fail;
 
 /// Two lifts, and whether the first is equal to the second, before it (less) or after it (greater).
 struct Lifts(Lift, Lift, Ordering);
@@ -116,93 +116,96 @@ fn thread(parts: (u16, u8)) -> Thread {
 }
 
 impl Case for Lifts {
-    fn verify(&self, _: Global) -> Result<(), Fail> {
+    fn verify(&self, rt: &(impl Abort + AllocGlobal), at: &str) -> Result<(), Fail> {
         let Lifts(x, y, order) = self;
         let same = x.equals(*y) == (*order == Ordering::Equal);
-        assert!(same && x.precedes(*y) == (*order == Ordering::Less));
+        assert!(rt;
+            same && x.precedes(*y) == (*order == Ordering::Less),
+            "{at}"
+        );
         Ok(())
     }
 }
 
 impl Case for Threads {
-    fn verify(&self, _: Global) -> Result<(), Fail> {
+    fn verify(&self, rt: &(impl Abort + AllocGlobal), at: &str) -> Result<(), Fail> {
         let Threads(x, y, order) = self;
         let (x, y) = (thread(*x), thread(*y));
         let same = x.equals(y) == (*order == Ordering::Equal);
-        assert!(same && x.precedes(y) == (*order == Ordering::Less));
+        assert!(rt; same && x.precedes(y) == (*order == Ordering::Less), "{at}");
         Ok(())
     }
 }
 
 impl Case for LiftBytes {
-    fn verify(&self, _: Global) -> Result<(), Fail> {
+    fn verify(&self, rt: &(impl Abort + AllocGlobal), at: &str) -> Result<(), Fail> {
         let LiftBytes(bytes, lift) = self;
-        assert!(Lift::parse(*bytes) == *lift);
+        assert!(rt; Lift::parse(*bytes) == *lift, "{at}");
         Ok(())
     }
 }
 
 impl Case for ThreadBytes {
-    fn verify(&self, _: Global) -> Result<(), Fail> {
+    fn verify(&self, rt: &(impl Abort + AllocGlobal), at: &str) -> Result<(), Fail> {
         let ThreadBytes(bytes, parts) = self;
         let read = match Thread::parse(*bytes) {
             Some(x) => Some((x.colour, x.ply)),
             None => None,
         };
-        assert!(read == *parts);
+        assert!(rt; read == *parts, "{at}");
         Ok(())
     }
 }
 
 impl Case for Coded {
-    fn verify(&self, _: Global) -> Result<(), Fail> {
+    fn verify(&self, rt: &(impl Abort + AllocGlobal), at: &str) -> Result<(), Fail> {
         let Coded(colour, code) = self;
-        assert!(thread((*colour, 9)).code() == *code);
+        assert!(rt; thread((*colour, 9)).code() == *code, "{at}");
         Ok(())
     }
 }
 
 impl Case for Filling {
-    fn verify(&self, _: Global) -> Result<(), Fail> {
+    fn verify(&self, rt: &(impl Abort + AllocGlobal), at: &str) -> Result<(), Fail> {
         let Filling(count, bytes, answer, after) = self;
         let mut memory = [R; 3];
         let got = read_cells::<Lift>(*count, *bytes, &mut memory);
-        assert!(got == *answer && memory == *after);
+        assert!(rt; got == *answer && memory == *after, "{at}");
         Ok(())
     }
 }
 
 impl Case for Numbered {
-    fn verify(&self, _: Global) -> Result<(), Fail> {
+    fn verify(&self, rt: &(impl Abort + AllocGlobal), at: &str) -> Result<(), Fail> {
         let Numbered(refusal, number) = self;
-        assert!(refusal.number() == *number);
+        assert!(rt; refusal.number() == *number, "{at}");
         Ok(())
     }
 }
 
 #[test]
 fn lifts_are_ordered_read_and_coded(rt: HostRuntime) -> Result<(), Fail> {
-    verify_all(rt.alloc(), &LIFTS)?;
-    verify_all(rt.alloc(), &LIFT_BYTES)?;
+    verify_all(&rt, &LIFTS)?;
+    verify_all(&rt, &LIFT_BYTES)?;
     assert!(rt; S.code() == 0 && R.code() == 1 && Lift::bytes() == 1);
     Ok(())
 }
 
 #[test]
 fn threads_are_ordered_read_and_coded(rt: HostRuntime) -> Result<(), Fail> {
-    verify_all(rt.alloc(), &THREADS)?;
-    verify_all(rt.alloc(), &THREAD_BYTES)?;
-    verify_all(rt.alloc(), &THREAD_CODES)?;
+    verify_all(&rt, &THREADS)?;
+    verify_all(&rt, &THREAD_BYTES)?;
+    verify_all(&rt, &THREAD_CODES)?;
     assert!(rt; Thread::bytes() == 3);
     Ok(())
 }
 
 #[test]
 fn cells_fill_the_front_of_the_memory_or_nothing(rt: HostRuntime) -> Result<(), Fail> {
-    verify_all(rt.alloc(), &FILLINGS)
+    verify_all(&rt, &FILLINGS)
 }
 
 #[test]
 fn refusals_have_their_numbers(rt: HostRuntime) -> Result<(), Fail> {
-    verify_all(rt.alloc(), &NUMBERS)
+    verify_all(&rt, &NUMBERS)
 }

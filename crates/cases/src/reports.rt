@@ -4,8 +4,8 @@ use cells::{Cell, Lift, Thread};
 use find_report::find_report;
 use lines::render;
 use plain::Plain;
-use std::alloc::Global;
-use std::test::*;
+use std::process::Abort;
+use std::test::Fail;
 
 /// A kind of cells.
 enum Kind {
@@ -158,42 +158,44 @@ static LONG_FILES: [Long; 11] = [
 
 /// Checks what is printed of a file that begins with one part and ends with another.
 pub(crate) fn verify_print<C: Cell + Clone + Default>(
-    heap: Global,
+    rt: &(impl Abort + AllocGlobal),
+    at: &str,
     front: &[u8],
     rest: &[u8],
     text: &str,
 ) -> Result<(), Fail> {
+    let heap = rt.alloc();
     let mut file = front.to_vec(heap)?;
     file.extend_from_slice(rest)?;
     let lines = find_report::<C, Plain>(heap, &Plain, file.as_slice())?;
     let printed = render(heap, lines.as_slice())?;
-    assert_eq!(printed.as_str(), text);
+    assert_eq!(rt; printed.as_str(), text, "{at}");
     Ok(())
 }
 
 impl Case for Report {
-    fn verify(&self, heap: Global) -> Result<(), Fail> {
+    fn verify(&self, rt: &(impl Abort + AllocGlobal), at: &str) -> Result<(), Fail> {
         match self.kind {
-            Kind::Lifts => verify_print::<Lift>(heap, b"", self.file, self.text),
-            Kind::Threads => verify_print::<Thread>(heap, b"", self.file, self.text),
+            Kind::Lifts => verify_print::<Lift>(rt, at, b"", self.file, self.text),
+            Kind::Threads => verify_print::<Thread>(rt, at, b"", self.file, self.text),
         }
     }
 }
 
 impl Case for Long {
-    fn verify(&self, heap: Global) -> Result<(), Fail> {
+    fn verify(&self, rt: &(impl Abort + AllocGlobal), at: &str) -> Result<(), Fail> {
         let Long(front, count, text) = self;
-        let rest = vec![in heap; b'#'; *count]?;
-        verify_print::<Lift>(heap, *front, rest.as_slice(), *text)
+        let rest = vec![in rt.alloc(); b'#'; *count]?;
+        verify_print::<Lift>(rt, at, *front, rest.as_slice(), *text)
     }
 }
 
 #[test]
 fn files_print_their_lines(rt: HostRuntime) -> Result<(), Fail> {
-    verify_all(rt.alloc(), &REPORTS)
+    verify_all(&rt, &REPORTS)
 }
 
 #[test]
 fn files_and_records_are_read_up_to_their_limits(rt: HostRuntime) -> Result<(), Fail> {
-    verify_all(rt.alloc(), &LONG_FILES)
+    verify_all(&rt, &LONG_FILES)
 }

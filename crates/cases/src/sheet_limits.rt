@@ -5,7 +5,8 @@ use drafts::{Draft, OverBytes, OverCells};
 use grids::Refusal;
 use sheets::{ByteSheet, CellSheet};
 use std::alloc::{AllocError, Global};
-use std::test::*;
+use std::process::Abort;
+use std::test::Fail;
 
 /// Rows and columns, a count of cells, and why no sheet is made of them.
 struct Sheet((usize, usize), usize, Option<Refusal>);
@@ -123,40 +124,52 @@ fn refused<C: Cell + Clone + Default>(
 }
 
 impl Case for Sheet {
-    fn verify(&self, heap: Global) -> Result<(), Fail> {
+    fn verify(&self, rt: &(impl Abort + AllocGlobal), at: &str) -> Result<(), Fail> {
         let Sheet(_, _, refusal) = self;
-        assert!(refused::<Lift>(heap, self)? == [*refusal; 2]);
-        assert!(refused::<Thread>(heap, self)? == [*refusal; 2]);
+        assert!(rt; refused::<Lift>(rt.alloc(), self)? == [*refusal; 2], "{at}");
+        assert!(rt;
+            refused::<Thread>(rt.alloc(), self)? == [*refusal; 2],
+            "{at}"
+        );
         Ok(())
     }
 }
 
 impl Case for Bytes {
-    fn verify(&self, _: Global) -> Result<(), Fail> {
+    fn verify(&self, rt: &(impl Abort + AllocGlobal), at: &str) -> Result<(), Fail> {
         let Bytes(size, bytes, refusal) = self;
-        assert!(seen_in_bytes::<Lift>(*size, *bytes, 0, 0).err() == *refusal);
+        assert!(rt;
+            seen_in_bytes::<Lift>(*size, *bytes, 0, 0).err() == *refusal,
+            "{at}"
+        );
         Ok(())
     }
 }
 
 impl Case for Look {
-    fn verify(&self, _: Global) -> Result<(), Fail> {
+    fn verify(&self, rt: &(impl Abort + AllocGlobal), at: &str) -> Result<(), Fail> {
         let Look(row, col, lift) = self;
         let expected = Ok((2, 3, *lift));
-        assert!(seen_in_cells::<Lift>((2, 3), &CELLS, *row, *col) == expected);
-        assert!(seen_in_bytes::<Lift>((2, 3), b"#....#", *row, *col) == expected);
+        assert!(rt;
+            seen_in_cells::<Lift>((2, 3), &CELLS, *row, *col) == expected,
+            "{at}"
+        );
+        assert!(rt;
+            seen_in_bytes::<Lift>((2, 3), b"#....#", *row, *col) == expected,
+            "{at}"
+        );
         Ok(())
     }
 }
 
 #[test]
 fn sheets_are_made_up_to_their_limits(rt: HostRuntime) -> Result<(), Fail> {
-    verify_all(rt.alloc(), &SHEETS)
+    verify_all(&rt, &SHEETS)
 }
 
 #[test]
 fn byte_sheets_are_made_of_whole_cells_that_read(rt: HostRuntime) -> Result<(), Fail> {
-    verify_all(rt.alloc(), &BYTES)?;
+    verify_all(&rt, &BYTES)?;
     let cut = seen_in_bytes::<Thread>((1, 2), b"12345", 0, 0);
     assert!(rt; cut.err() == Some(Refusal::DraftLength));
     Ok(())
@@ -164,5 +177,5 @@ fn byte_sheets_are_made_of_whole_cells_that_read(rt: HostRuntime) -> Result<(), 
 
 #[test]
 fn sheets_show_their_cells_inside_and_nothing_outside(rt: HostRuntime) -> Result<(), Fail> {
-    verify_all(rt.alloc(), &LOOKS)
+    verify_all(&rt, &LOOKS)
 }
