@@ -1,6 +1,6 @@
 -- Tiles whose cells lie one after another in a store.
 use Rattle.std.proofs.Common.{◌≡◌, ℕ, zero, suc, ◌+◌, ◌<◌, ◌≤◌, List, [], ◌∷◌, ◌++◌, map, length, get_or, take, drop, sum_by, sym, refl, ap, ◌∙◌, ap₂, append_assoc, arith}
-use Rattle.std.specs.List.{AllByRecursion as All}
+use Rattle.std.specs.List.{AllByRecursion}
 use Rattle.std.proofs.lemmas.List.{length-take-le, length-drop, drop-drop, take_at, drop_at}
 use Rattle.std.proofs.lemmas.List.Sums.{sum_by-cons}
 use Rattle.grids.specs.Grids.{Tile, tile}
@@ -36,7 +36,7 @@ module _ {C : Type 0} where
   sizes-cut (s ∷ ss) cs = ap (λ xs. s ∷ xs) (sizes-cut ss (drop (area s) cs))
 
   -- a store that is long enough has all cells of each tile
-  pub whole_cut : (ss : List (ℕ × ℕ)) (cs : List C) → sum_by area ss ≤ length cs → All Whole (cut ss cs)
+  pub whole_cut : (ss : List (ℕ × ℕ)) (cs : List C) → sum_by area ss ≤ length cs → AllByRecursion Whole (cut ss cs)
   whole_cut [] cs h = tt
   whole_cut (s ∷ ss) cs h =
       let n = sum_by-cons area s ss in
@@ -74,7 +74,7 @@ module _ {C : Type 0} where
       ∙ ap (cut (drop n ss)) (drop-drop (sum_by area (take n ss)) (area s) cs ∙ ap (λ i. drop i cs) (sym (sum_by-cons area s (take n ss))))
 
   -- whole tiles, laid one after another, are cut out again
-  pub cut_joined : (ts : List (Tile C)) (rest : List C) → All Whole ts → cut (map tile_size ts) (all_cells ts ++ rest) ≡ ts
+  pub cut_joined : (ts : List (Tile C)) (rest : List C) → AllByRecursion Whole ts → cut (map tile_size ts) (all_cells ts ++ rest) ≡ ts
   cut_joined [] rest h = refl
   cut_joined (t ∷ ts) rest h =
       let e = append_assoc t.cells (all_cells ts) rest in

@@ -1,6 +1,6 @@
 -- Where a tile goes in, and whether it is held already.
 use Rattle.std.proofs.Common.{◌≡◌, ℕ, suc, ◌+◌, ◌<◌, ◌≤◌, Bool, true, false, cond, not, eqb, List, [], ◌∷◌, length, get_or, take, drop, Some, sym, ap, ◌∙◌, subst, arith}
-use Rattle.std.specs.List.{prefix_len, AllByRecursion as All, slice_get}
+use Rattle.std.specs.List.{prefix_len, AllByRecursion, slice_get}
 use Rattle.std.proofs.lemmas.List.{take_all}
 use Rattle.std.proofs.lemmas.List.Sums.{sum_by_more, sum_by-take-le, prefix_len-drop_yes, prefix_len-drop_no, prefix_len-drop_all, prefix_len-le-length}
 use Rattle.std.proofs.lemmas.Bool.{cond_both, eq-eqb, ne_eqb}
@@ -11,12 +11,12 @@ use Rattle.book.specs.Models.{no_tile}
 use Rattle.book.specs.Entering.{times_held, insertion_point, InsertionPoint}
 
 -- the leading ones pass the test, and the next does not
-leading_pass : {X : Type 0} (p : X → Bool) (xs : List X) → All (λ x. p x ≡ true) (take (prefix_len p xs) xs)
+leading_pass : {X : Type 0} (p : X → Bool) (xs : List X) → AllByRecursion (λ x. p x ≡ true) (take (prefix_len p xs) xs)
 leading_pass p [] = tt
 leading_pass p (x ∷ xs) =
     let rest = leading_pass p xs in
-    cond_both (p x) (1 + prefix_len p xs) 0 (λ n. All (λ y. p y ≡ true) (take n (x ∷ xs)))
-    (λ e. let i : suc (prefix_len p xs) ≡ 1 + prefix_len p xs = omega arith in subst (λ n. All (λ y. p y ≡ true) (take n (x ∷ xs))) i (e, rest))
+    cond_both (p x) (1 + prefix_len p xs) 0 (λ n. AllByRecursion (λ y. p y ≡ true) (take n (x ∷ xs)))
+    (λ e. let i : suc (prefix_len p xs) ≡ 1 + prefix_len p xs = omega arith in subst (λ n. AllByRecursion (λ y. p y ≡ true) (take n (x ∷ xs))) i (e, rest))
     (λ _. tt)
 
 leading_next : {X : Type 0} (p : X → Bool) (xs : List X) (y : X) → slice_get xs (prefix_len p xs) ≡ Some y → p y ≡ false

@@ -1,7 +1,7 @@
 -- Items put into the middle of the front of a list.
 use Rattle.std.proofs.Common.{◌≡◌, ℕ, ◌+◌, ◌-◌, ◌≤◌, List, [], ◌∷◌, ◌++◌, map, length, take, drop, sym, refl, ap, ◌∙◌, ap₂, append_assoc, arith}
 use borrow.Rule.Slice.PartMut.{put_mid}
-use Rattle.std.specs.List.{insert, AllByRecursion as All}
+use Rattle.std.specs.List.{insert, AllByRecursion}
 use lib.Seq.{paste}
 use Rattle.std.proofs.lemmas.List.Edits.{paste_all}
 use Rattle.std.proofs.ByRecursion.{All-append, All-take, All-drop}
@@ -46,7 +46,7 @@ module _ {X : Type 0} where
       ap (take (total + 1)) parts
       ∙ (take_at (take at old ++ (x ∷ middle)) end (total + 1) long ∙ ap₂ (λ ys zs. ys ++ (x ∷ zs)) (sym (take-take at total old o)) rest)
 
-  pub all_inserted : (P : X → Type 0) (xs : List X) (n : ℕ) (x : X) → P x → All P xs → All P (insert xs n x)
+  pub all_inserted : (P : X → Type 0) (xs : List X) (n : ℕ) (x : X) → P x → AllByRecursion P xs → AllByRecursion P (insert xs n x)
   all_inserted P xs n x p h = All-append P (take n xs) (x ∷ drop n xs) (All-take P n xs h) (p, All-drop P n xs h)
 
   pub map_inserted : {Y : Type 0} (f : X → Y) (xs : List X) (n : ℕ) (x : X) → map f (insert xs n x) ≡ insert (map f xs) n (f x)

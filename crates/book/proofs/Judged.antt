@@ -1,7 +1,7 @@
 -- A draft judged tile by tile.
 use Rattle.std.proofs.Common.{◌≡◌, ℕ, zero, suc, ◌+◌, ◌*◌, ◌^◌, ◌<◌, ◌≤◌, true, false, cond, List, [], ◌∷◌, ◌++◌, map, length, get_or, take, drop, set, sum_by, count_by, sym, refl, ap, ◌∙◌, subst, ap₂, arith}
 use lib.Lanes.{zip2}
-use Rattle.std.specs.List.{AllByRecursion as All}
+use Rattle.std.specs.List.{AllByRecursion}
 use Rattle.std.proofs.lemmas.Nat.{mul-le}
 use Rattle.std.proofs.ByRecursion.{All-from_get_or}
 use Rattle.std.proofs.lemmas.List.{take_all, drop_all, append-nil, map-set, set-get_or}
@@ -22,7 +22,7 @@ use Rattle.book.specs.Table.{stopped, size_of, area, one_more}
 use Rattle.book.specs.Models.{sizes, stop_counts, entries_held, no_tile, cut, held, is_trimmed}
 use Rattle.book.specs.Judging.{verdict, stops_after, judged}
 use Rattle.book.specs.Progress.{Tried}
-use Rattle.book.proofs.Tables.{entry_at, told_at, tiles-counted, part_tile, part_valid}
+use Rattle.book.proofs.Tables.{entry_at, told_at, tiles_counted, part_tile, part_valid}
 
 -- what a looking rule's bound comes to
 pub looks_few : {C : Type 0} (rule : Rule C) (g : Grid C) (t : Tile C) → Drawn g → Valid t → rule.looks g (laid t) ≤ 2 ^ 33
@@ -45,8 +45,8 @@ module _ (b d : Book) (n : ℕ) (h : n < b.count) (is : d.entries ≡ set b.entr
       ap (map f) (ap₂ take same is ∙ take_set_lt b.count n b.entries (stopped (entry_at b n)) h)
       ∙ map-set f (entries_held b) n (stopped (entry_at b n))
 
-  pub sizes-raised : sizes d ≡ sizes b
-  sizes-raised = told_raised size_of ∙ (ap (set (sizes b) n) (sym (told_at b size_of n (0, 0) h)) ∙ set-get_or (sizes b) n (0, 0))
+  pub sizes_raised : sizes d ≡ sizes b
+  sizes_raised = told_raised size_of ∙ (ap (set (sizes b) n) (sym (told_at b size_of n (0, 0) h)) ∙ set-get_or (sizes b) n (0, 0))
 
   pub stops_raised : stop_counts d ≡ set (stop_counts b) n (one_more (get_or (stop_counts b) n 0))
   stops_raised = told_raised (λ e. e.stops) ∙ ap (λ m. set (stop_counts b) n (one_more m)) (sym (told_at b (λ e. e.stops) n 0 h))
@@ -60,7 +60,7 @@ module _ {C : Type 0} (k : Kind C) (rule : Rule C) (g : Grid C) (n : ℕ) (t : T
   tried_found d h p is same state =
       let has : has_place k g (laid t) ≡ true = lt-ltb 0 _ (omega (arith, p, ap (λ q. q.places) answer)) in
       record {
-        same_sizes = sizes-raised b d n h is same;
+        same_sizes = sizes_raised b d n h is same;
         same_state = state;
         stops = stops_raised b d n h is same ∙ ap (set (stop_counts b) n) (sym (cond-true (has_place k g (laid t)) (one_more (get_or (stop_counts b) n 0)) (get_or (stop_counts b) n 0) has));
         found = ap (λ m. v.found + m) (sym (cond-true {A = ℕ} (has_place k g (laid t)) 1 0 has));
@@ -151,9 +151,9 @@ tried_same {C} k rule g h n cs b d e v w x y p q t =
     subst P p (subst Q q t)
 
 -- of a book whose cells are all in the store, every place that is listed is one, and none is missing
-pub all_exact : {C : Type 0} (k : Kind C) (laws : Lawful k) (g : Grid C) (b : Book) (cs : List C) → sum_by area (sizes b) ≤ length cs → All (Exact k g) (held b cs).tiles
+pub all_exact : {C : Type 0} (k : Kind C) (laws : Lawful k) (g : Grid C) (b : Book) (cs : List C) → sum_by area (sizes b) ≤ length cs → AllByRecursion (Exact k g) (held b cs).tiles
 all_exact k laws g b cs stored =
     All-from_get_or (Exact k g) (held b cs).tiles no_tile (λ n h.
-    let l : n < b.count = omega (arith, h, tiles-counted b cs n) in
+    let l : n < b.count = omega (arith, h, tiles_counted b cs n) in
     let V : Tile _ → Type 0 = λ t. Valid t in
     exactly k laws g (get_or (held b cs).tiles n no_tile) (subst V (part_tile b cs n l stored _ refl) (part_valid b cs n l stored _ refl)))

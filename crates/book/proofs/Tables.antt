@@ -52,8 +52,8 @@ module _ (b : Book) where
   ends_within n h = omega (arith, start_more n h, sum_by-take-le area (sizes b) (n + 1))
 
 module _ {C : Type 0} (b : Book) (cs : List C) (n : ℕ) where
-  pub tiles-counted : length (cut (sizes b) cs) ≡ b.count
-  tiles-counted = length_cut (sizes b) cs ∙ length_told b size_of
+  pub tiles_counted : length (cut (sizes b) cs) ≡ b.count
+  tiles_counted = length_cut (sizes b) cs ∙ length_told b size_of
 
   -- the tile with a number, where its cells are a part of the store
   module _ (h : n < b.count) (stored : sum_by area (sizes b) ≤ length cs) where

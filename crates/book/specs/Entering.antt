@@ -1,6 +1,6 @@
 -- What enter answers, and what it leaves. Assumes nothing.
 use Rattle.std.specs.Prelude.{◌≡◌, ℕ, ◌+◌, ◌≤◌, true, false, List, [], ◌∷◌, ◌++◌, length, take, Some, count_by, Option, Result, ◌==◌, nat_le, nat_lt}
-use Rattle.std.specs.List.{insert, flat_map, prefix_len, AllByRecursion as All, slice_get}
+use Rattle.std.specs.List.{insert, flat_map, prefix_len, AllByRecursion, slice_get}
 use Rattle.grids.specs.Kinds.{Kind}
 use Rattle.grids.specs.Grids.{Tile}
 use Rattle.grids.specs.Listed.{listed}
@@ -59,5 +59,5 @@ module _ {C : Type 0} where
   -- all tiles below number n are before t, and number n, if there is one, is not
   pub record InsertionPoint (k : Kind C) (t : Tile C) (ts : List (Tile C)) (n : ℕ) : Type 0 where
     pub few : n ≤ length ts
-    pub earlier : All (λ u. (tiles k).before u t ≡ true) (take n ts)
+    pub earlier : AllByRecursion (λ u. (tiles k).before u t ≡ true) (take n ts)
     pub next : (u : Tile C) → slice_get ts n ≡ Some u → (tiles k).before u t ≡ false

@@ -1,6 +1,6 @@
 //! Judging a draft.
 ghost use Rattle.std.specs.Prelude.{◌≡◌, ◌^◌, ◌<◌, ◌≤◌, length, sum_by, OnErr, OnOk, slice_index_or, slice_set};
-ghost use Rattle.std.specs.List.{AllByRecursion as All};
+ghost use Rattle.std.specs.List.{AllByRecursion};
 ghost use Rattle.grids.specs.Grids.{Valid, laid};
 ghost use Rattle.grids.specs.Places.{Exact};
 ghost use Rattle.grids.specs.Refusals.{numbered, numbers};
@@ -58,7 +58,7 @@ impl Book {
         work: &mut [u32],
     ) -> Result<Verdict, Refusal>
         ensures judges { Judges C.Cell.kind E.Engine.rule (D.Draft.shows draft.old).grid (length work.old) (held self.old store.now) (numbered result) (held self.new store.now) }
-        ensures exact { OnOk result (All (Exact C.Cell.kind (D.Draft.shows draft.old).grid) (held self.old store.now).tiles) }
+        ensures exact { OnOk result (AllByRecursion (Exact C.Cell.kind (D.Draft.shows draft.old).grid) (held self.old store.now).tiles) }
         ensures same { (D.Draft.shows draft.new).grid ≡ (D.Draft.shows draft.old).grid }
         ensures counts { (D.Draft.tally draft.new).value ≡ judge_tally E.Engine.rule (D.Draft.shows draft.old).grid (length work.old) (held self.old store.now) (D.Draft.tally draft.old).value }
         ensures untouched { OnErr result ((self.new ≡ self.old) × (draft.new ≡ draft.old) × (work.new ≡ work.old)) }

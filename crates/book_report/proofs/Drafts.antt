@@ -19,16 +19,16 @@ use Rattle.book_report.specs.Report.{place_lines}
 
 -- what an accepted find left at the front of the list
 module _ {C : Type 0} (k : Kind C) (rule : Rule C) (g : Grid C) (t : Tile C) (w : ℕ) (f : Found) (old new : List Position) (n : ℕ) (answer : Ok f ≡ find_answer k rule g t w) (listing : new ≡ find_list k g t w old) (shown : n ≡ min f.places (length new)) where
-  places-listed : new ≡ listed (places k g (laid t)) old
-  places-listed = listing ∙ ap (λ o. kept_or o old (listed (places k g (laid t)) old)) (unless_ok (find_refusal t w) (finding k rule g (laid t)) f answer).0
+  places_listed : new ≡ listed (places k g (laid t)) old
+  places_listed = listing ∙ ap (λ o. kept_or o old (listed (places k g (laid t)) old)) (unless_ok (find_refusal t w) (finding k rule g (laid t)) f answer).0
 
   pub list_kept : length new ≡ length old
-  list_kept = ap length places-listed ∙ length-listed (places k g (laid t)) old
+  list_kept = ap length places_listed ∙ length-listed (places k g (laid t)) old
 
   pub places_shown : take n new ≡ take (length old) (places k g (laid t))
   places_shown =
       let found : f.places ≡ length (places k g (laid t)) = ap (λ x. x.places) (unless_ok (find_refusal t w) (finding k rule g (laid t)) f answer).1 in
-      ap (take n) places-listed ∙ listed_first (places k g (laid t)) old n (omega (arith, shown, list_kept, found))
+      ap (take n) places_listed ∙ listed_first (places k g (laid t)) old n (omega (arith, shown, list_kept, found))
 
 -- tiles of which none was found have no lines
 no_line : (n : ℕ) (qs : List Position) → length qs ≤ 0 → map (place_line n) (take 64 qs) ≡ []

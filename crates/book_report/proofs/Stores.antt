@@ -10,7 +10,7 @@ use Rattle.engine.specs.Finding.{tile_checks}
 use Rattle.book.specs.Models.{Held, tile_area, cells_held, Stored}
 use Rattle.book.specs.Entering.{times_held, insertion_point, all_cells, enter_refusal, entered, enter_answer}
 use Rattle.book.proofs.Stored.{entered_stored}
-use Rattle.records.specs.Marks.{Mark, draft, tile as tile-mark, unknown}
+use Rattle.records.specs.Marks.{Mark, draft, tile as tile_mark, unknown}
 use Rattle.records.specs.Entries.{Entry}
 use Rattle.records.specs.Files.{File}
 use Rattle.reports.specs.Reports.{entry_grid, entry_tile, fault_lines, entries_lines, file_lines}
@@ -28,37 +28,37 @@ module _ {C : Type 0} (k : Kind C) (t : Tile C) (s z : Held C) (a : Alike s z) w
   answer_alike : enter_answer k s t ≡ enter_answer k z t
   answer_alike = ap₂ (λ o ts. unless o (insertion_point k t ts)) refusal_alike a.tiles
 
-  entered-alike : Alike (entered k s t) (entered k z t)
-  entered-alike =
+  entered_alike : Alike (entered k s t) (entered k z t)
+  entered_alike =
       let f : List (Tile C) → List (Tile C) = λ ts. insert ts (insertion_point k t ts) t in
       record { tiles = ap f a.tiles; long = length-listed (all_cells (f s.tiles)) s.store ∙ (a.long ∙ sym (length-listed (all_cells (f z.tiles)) z.store)) }
 
   state_alike : (o p : Option ℕ) → o ≡ p → Alike (kept_or o s (entered k s t)) (kept_or p z (entered k z t))
-  state_alike None None e = entered-alike
+  state_alike None None e = entered_alike
   state_alike (Some m) (Some n) e = a
   state_alike None (Some n) e = let x : ◌≡◌ {A = ℕ} 0 1 = cc in absurd (omega arith)
   state_alike (Some m) None e = let x : ◌≡◌ {A = ℕ} 0 1 = cc in absurd (omega arith)
 
 module _ {C : Type 0} (k : Kind C) (r : Reading C) where
-  says-alike : (s z : Held C) (e : Entry) (m : Mark) → Alike s z → lines_at k r s e m ≡ lines_at k r z e m
-  says-alike s z e draft a = ap (draft_lines k (entry_grid r e)) a.tiles
-  says-alike s z e tile-mark a = ap (λ x. enter_line e.rows e.cols x ∷ []) (answer_alike k (entry_tile r e) s z a)
-  says-alike s z e unknown a = refl
+  says_alike : (s z : Held C) (e : Entry) (m : Mark) → Alike s z → lines_at k r s e m ≡ lines_at k r z e m
+  says_alike s z e draft a = ap (draft_lines k (entry_grid r e)) a.tiles
+  says_alike s z e tile_mark a = ap (λ x. enter_line e.rows e.cols x ∷ []) (answer_alike k (entry_tile r e) s z a)
+  says_alike s z e unknown a = refl
 
-  next-alike : (s z : Held C) (e : Entry) (m : Mark) → Alike s z → Alike (state_at k r s e m) (state_at k r z e m)
-  next-alike s z e draft a = record { tiles = a.tiles; long = a.long }
-  next-alike s z e tile-mark a = state_alike k (entry_tile r e) s z a _ _ (refusal_alike k (entry_tile r e) s z a)
-  next-alike s z e unknown a = a
+  next_alike : (s z : Held C) (e : Entry) (m : Mark) → Alike s z → Alike (state_at k r s e m) (state_at k r z e m)
+  next_alike s z e draft a = record { tiles = a.tiles; long = a.long }
+  next_alike s z e tile_mark a = state_alike k (entry_tile r e) s z a _ _ (refusal_alike k (entry_tile r e) s z a)
+  next_alike s z e unknown a = a
 
   -- the cells held stay in the store
   pub next_stored : (s : Held C) (e : Entry) (m : Mark) → Stored s → Stored (state_at k r s e m)
   next_stored s e draft h = h
-  next_stored s e tile-mark h = entered_stored k s (entry_tile r e) h
+  next_stored s e tile_mark h = entered_stored k s (entry_tile r e) h
   next_stored s e unknown h = h
 
   entries_alike : (s z : Held C) (es : List Entry) → Alike s z → entries_lines (says k r) (next k r) s es ≡ entries_lines (says k r) (next k r) z es
   entries_alike s z [] a = refl
-  entries_alike s z (e ∷ es) a = ap₂ (λ xs ys. xs ++ ys) (says-alike s z e e.mark a) (entries_alike (next k r s e) (next k r z e) es (next-alike s z e e.mark a))
+  entries_alike s z (e ∷ es) a = ap₂ (λ xs ys. xs ++ ys) (says_alike s z e e.mark a) (entries_alike (next k r s e) (next k r z e) es (next_alike s z e e.mark a))
 
-  pub file-alike : (s z : Held C) (f : File) → Alike s z → file_lines (says k r) (next k r) s f ≡ file_lines (says k r) (next k r) z f
-  file-alike s z f a = ap (λ ls. ls ++ fault_lines f.fault) (entries_alike s z f.entries a)
+  pub file_alike : (s z : Held C) (f : File) → Alike s z → file_lines (says k r) (next k r) s f ≡ file_lines (says k r) (next k r) z f
+  file_alike s z f a = ap (λ ls. ls ++ fault_lines f.fault) (entries_alike s z f.entries a)

@@ -7,7 +7,7 @@ use Rattle.cells.specs.Readings.{Reading}
 use Rattle.book.specs.Models.{Held, empty}
 use Rattle.book.specs.Entering.{enter_answer, enter_state}
 use Rattle.book.specs.Judging.{found_in, judged}
-use Rattle.records.specs.Marks.{Mark, draft, tile as tile-mark, unknown}
+use Rattle.records.specs.Marks.{Mark, draft, tile as tile_mark, unknown}
 use Rattle.records.specs.Entries.{Entry}
 use Rattle.lines.specs.declared.Line.{Line}
 use Rattle.lines.specs.declared.Line.TheVariants.{Entered, Refused, Passed, Stopped}
@@ -35,13 +35,13 @@ module _ {C : Type 0} where
   -- the lines of a record with a given mark, where the book and its store are s
   abbrev pub lines_at : Kind C → Reading C → Held C → Entry → Mark → List Line
   lines_at k r s e draft = draft_lines k (entry_grid r e) s.tiles
-  lines_at k r s e tile-mark = enter_line e.rows e.cols (enter_answer k s (entry_tile r e)) ∷ []
+  lines_at k r s e tile_mark = enter_line e.rows e.cols (enter_answer k s (entry_tile r e)) ∷ []
   lines_at k r s e unknown = []
 
   -- the book and its store after a record with a given mark
   abbrev pub state_at : Kind C → Reading C → Held C → Entry → Mark → Held C
   state_at k r s e draft = judged k (entry_grid r e) s
-  state_at k r s e tile-mark = enter_state k s (entry_tile r e)
+  state_at k r s e tile_mark = enter_state k s (entry_tile r e)
   state_at k r s e unknown = s
 
   -- what a record adds to the lines

@@ -8,7 +8,7 @@ ghost use Rattle.grids.specs.Places.{places};
 ghost use Rattle.engine.specs.Views.{viewed};
 ghost use Rattle.book.specs.Models.{held, empty, Stored};
 ghost use Rattle.book.specs.Entering.{enter_answer, enter_state};
-ghost use Rattle.records.specs.Marks.{draft as draft_mark, tile as tile-mark, limit};
+ghost use Rattle.records.specs.Marks.{draft as draft_mark, tile as tile_mark, limit};
 ghost use Rattle.records.specs.Entries.{entry_of, entry};
 ghost use Rattle.records.specs.Files.{file};
 ghost use Rattle.records.specs.Sound.{Sound};
@@ -113,10 +113,10 @@ fn report_record<C: Cell, E: Engine<C>>(
 
 // Enters a tile of the file, and says what came of it.
 fn enter_tile<C: Cell>(body: &Body<'_>, book: &mut Book, store: &mut [C], cells: &mut [C]) -> Line
-    requires sound { Sound C.Cell.reading 32 (entry_of tile-mark body.now) }
+    requires sound { Sound C.Cell.reading 32 (entry_of tile_mark body.now) }
     requires room { 1024 ≤ length cells.old }
-    ensures line { result ≡ enter_line body.now.rows body.now.cols (enter_answer C.Cell.kind (held book.old store.old) (entry_tile C.Cell.reading (entry_of tile-mark body.now))) }
-    ensures state { held book.new store.new ≡ enter_state C.Cell.kind (held book.old store.old) (entry_tile C.Cell.reading (entry_of tile-mark body.now)) }
+    ensures line { result ≡ enter_line body.now.rows body.now.cols (enter_answer C.Cell.kind (held book.old store.old) (entry_tile C.Cell.reading (entry_of tile_mark body.now))) }
+    ensures state { held book.new store.new ≡ enter_state C.Cell.kind (held book.old store.old) (entry_tile C.Cell.reading (entry_of tile_mark body.now)) }
 {
     let count = body.rows * body.cols;
     let Ok(()) = read_cells(count, body.cells, cells) else {

@@ -1,6 +1,6 @@
 -- The lines of a file, one record after another.
 use Rattle.std.proofs.Common.{◌≡◌, ℕ, zero, suc, ◌+◌, ◌<◌, ◌≤◌, cond, ltb, List, [], ◌∷◌, ◌++◌, map, length, drop, Some, None, Ok, Err, Option, Result, sym, refl, ap, ◌∙◌, subst, append_assoc, arith}
-use Rattle.std.specs.List.{AllByRecursion as All}
+use Rattle.std.specs.List.{AllByRecursion}
 use Rattle.std.proofs.ByRecursion.{All-push}
 use Rattle.std.proofs.lemmas.List.{append-nil, map_push, length-drop}
 use Rattle.std.proofs.lemmas.Bool.{cond-true, cond-false, lt-ltb, le-ltb}
@@ -8,7 +8,7 @@ use Rattle.grids.specs.Kinds.{Kind}
 use Rattle.cells.specs.Readings.{Reading}
 use Rattle.engine.specs.Rules.{Rule}
 use Rattle.records.specs.declared.Body.{Body}
-use Rattle.records.specs.Marks.{draft as draft_mark, tile as tile-mark}
+use Rattle.records.specs.Marks.{draft as draft_mark, tile as tile_mark}
 use Rattle.records.specs.Entries.{Entry, FaultAt, entry_of}
 use Rattle.records.specs.Fronts.{Front, end, faulty, whole, front, next_answer, handed_on, moved_to}
 use Rattle.records.specs.Files.{File, filed, file_from, file}
@@ -38,8 +38,8 @@ at_fault n (whole e m) x h = let z : ◌≡◌ {A = ℕ} 0 1 = cc in absurd (ome
 pub record Reached {C : Type 0} (k : Kind C) (r : Reading C) (rule : Rule C) (bs : List ℕ) (ts : List Body) (at : ℕ) (rest : List ℕ) (lines : List Line) : Type 0 where
   pub most : ℕ
   pub enough : length rest < most
-  pub left : file_lines k r rule [] (file r bs) ≡ lines ++ file_lines k r rule (map (entry_of tile-mark) ts) (file_from r most at rest)
-  pub sound : All (λ b. Sound r 32 (entry_of tile-mark b)) ts
+  pub left : file_lines k r rule [] (file r bs) ≡ lines ++ file_lines k r rule (map (entry_of tile_mark) ts) (file_from r most at rest)
+  pub sound : AllByRecursion (λ b. Sound r 32 (entry_of tile_mark b)) ts
 
 module _ {C : Type 0} (k : Kind C) (r : Reading C) (rule : Rule C) (bs : List ℕ) where
   pub reached_none : (ts : List Body) (at : ℕ) (rest : List ℕ) (lines : List Line) → ts ≡ [] → at ≡ 0 → rest ≡ bs → lines ≡ [] → Reached k r rule bs ts at rest lines
@@ -55,13 +55,13 @@ module _ {C : Type 0} (k : Kind C) (r : Reading C) (rule : Rule C) (bs : List �
   pub reached_end : (ts : List Body) (at : ℕ) (rest : List ℕ) (lines : List Line) → Ok None ≡ next_answer at (front r rest) → Reached k r rule bs ts at rest lines → lines ≡ file_lines k r rule [] (file r bs)
   reached_end ts at rest lines h c =
       let o = opens c.most at rest end c.enough (at_end at (front r rest) h) in
-      sym (c.left ∙ (ap (λ u. lines ++ file_lines k r rule (map (entry_of tile-mark) ts) u) o.2 ∙ append-nil lines))
+      sym (c.left ∙ (ap (λ u. lines ++ file_lines k r rule (map (entry_of tile_mark) ts) u) o.2 ∙ append-nil lines))
 
   pub reached_fault : (ts : List Body) (at : ℕ) (rest : List ℕ) (lines new : List Line) (x : FaultAt) → Err x ≡ next_answer at (front r rest) → new ≡ lines ++ (Fault x.number x.at ∷ []) → Reached k r rule bs ts at rest lines → new ≡ file_lines k r rule [] (file r bs)
   reached_fault ts at rest lines new x h e c =
       let f = at_fault at (front r rest) x h in
       let o = opens c.most at rest (faulty f.0) c.enough f.1 in
-      e ∙ (ap (λ u. lines ++ (Fault u.number u.at ∷ [])) f.2 ∙ sym (c.left ∙ ap (λ u. lines ++ file_lines k r rule (map (entry_of tile-mark) ts) u) o.2))
+      e ∙ (ap (λ u. lines ++ (Fault u.number u.at ∷ [])) f.2 ∙ sym (c.left ∙ ap (λ u. lines ++ file_lines k r rule (map (entry_of tile_mark) ts) u) o.2))
 
   -- one record more
   module _ (ts : List Body) (at : ℕ) (rest : List ℕ) (lines : List Line) (e : Entry) (h : Ok (Some e) ≡ next_answer at (front r rest)) (c : Reached k r rule bs ts at rest lines) where
@@ -75,9 +75,9 @@ module _ {C : Type 0} (k : Kind C) (r : Reading C) (rule : Rule C) (bs : List �
         let y : after ≡ drop f.0 rest = q ∙ ap (handed_on rest) f.1 in
         omega (arith, ap length y, length-drop f.0 rest, f.2.some, f.2.within)
 
-    pub reached_more : (us : List Body) (to : ℕ) (after : List ℕ) (new : List Line) → to ≡ moved_to at (front r rest) → after ≡ handed_on rest (front r rest) → map (entry_of tile-mark) us ≡ tiles_at (map (entry_of tile-mark) ts) e e.mark → new ≡ lines ++ lines_at k r rule (map (entry_of tile-mark) ts) e e.mark → All (λ b. Sound r 32 (entry_of tile-mark b)) us → Reached k r rule bs us to after new
+    pub reached_more : (us : List Body) (to : ℕ) (after : List ℕ) (new : List Line) → to ≡ moved_to at (front r rest) → after ≡ handed_on rest (front r rest) → map (entry_of tile_mark) us ≡ tiles_at (map (entry_of tile_mark) ts) e e.mark → new ≡ lines ++ lines_at k r rule (map (entry_of tile_mark) ts) e e.mark → AllByRecursion (λ b. Sound r 32 (entry_of tile_mark b)) us → Reached k r rule bs us to after new
     reached_more us to after new p q t l s =
-        let es = map (entry_of tile-mark) ts in
+        let es = map (entry_of tile_mark) ts in
         let f = record_took in
         let m = f.0 in
         let o = opens c.most at rest (whole e m) c.enough f.1 in
@@ -92,7 +92,7 @@ module _ {C : Type 0} (k : Kind C) (r : Reading C) (rule : Rule C) (bs : List �
         record {
           most = n;
           enough = omega (arith, c.enough, o.1, ap length y, length-drop m rest, f.2.some, f.2.within);
-          left = z ∙ (ap (λ u. new ++ file_lines k r rule u (file_from r n (at + m) (drop m rest))) (sym t) ∙ (ap (λ u. new ++ file_lines k r rule (map (entry_of tile-mark) us) (file_from r n u (drop m rest))) (sym x) ∙ ap (λ u. new ++ file_lines k r rule (map (entry_of tile-mark) us) (file_from r n to u)) (sym y)));
+          left = z ∙ (ap (λ u. new ++ file_lines k r rule u (file_from r n (at + m) (drop m rest))) (sym t) ∙ (ap (λ u. new ++ file_lines k r rule (map (entry_of tile_mark) us) (file_from r n u (drop m rest))) (sym x) ∙ ap (λ u. new ++ file_lines k r rule (map (entry_of tile_mark) us) (file_from r n to u)) (sym y)));
           sound = s;
         }
 

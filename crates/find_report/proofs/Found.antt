@@ -23,8 +23,8 @@ use Rattle.records.specs.Sound.{Sound}
 use Rattle.find_report.specs.Report.{entry_cells, entry_tile}
 
 -- entries that all fit stand at the front of a list, and it stays as long as it was
-pub listed-front : {X : Type 0} (xs old : List X) → length xs ≤ length old → take (length xs) (listed xs old) ≡ xs
-listed-front xs old h = ap (λ ys. take (length xs) (ys ++ drop (length xs) old)) (take_all (length old) xs h) ∙ take_at xs (drop (length xs) old) (length xs) refl
+pub listed_front : {X : Type 0} (xs old : List X) → length xs ≤ length old → take (length xs) (listed xs old) ≡ xs
+listed_front xs old h = ap (λ ys. take (length xs) (ys ++ drop (length xs) old)) (take_all (length old) xs h) ∙ take_at xs (drop (length xs) old) (length xs) refl
 
 pub listed_length : {X : Type 0} (xs old : List X) → length xs ≤ length old → length xs ≤ length (listed xs old)
 listed_length xs old h = omega (arith, ap (λ ys. length (ys ++ drop (length xs) old)) (take_all (length old) xs h), length-append xs (drop (length xs) old))
@@ -47,7 +47,7 @@ front_cells r e old new s h f =
     let l = length_cells r n e.bytes s.read in
     let z : n - 0 ≡ length (entry_cells r e) = omega arith in
     let g : new ≡ listed (entry_cells r e) old = f ∙ ap (λ o. kept_or o old (listed (entry_cells r e) old)) (reads_in r e (length old) s h) in
-    ap (λ m. take m new) z ∙ (ap (take (length (entry_cells r e))) g ∙ listed-front (entry_cells r e) old (omega (arith, l, sound_few r e s)))
+    ap (λ m. take m new) z ∙ (ap (take (length (entry_cells r e))) g ∙ listed_front (entry_cells r e) old (omega (arith, l, sound_few r e s)))
 
 -- a grid has room for the places of a tile
 places_few : {C : Type 0} (k : Kind C) (g : Grid C) (t : Tile C) → Valid t → length (places k g (laid t)) ≤ g.rows * g.cols
@@ -75,6 +75,6 @@ module _ {C : Type 0} (k : Kind C) (rule : Rule C) (g : Grid C) (t : Tile C) (w 
       let m : length (places k g (laid t)) ≤ length old = omega (arith, l, few) in
       record {
         answer = x;
-        listing = ap (λ j. take j new) n ∙ (ap (take (length (places k g (laid t)))) i ∙ listed-front (places k g (laid t)) old m);
+        listing = ap (λ j. take j new) n ∙ (ap (take (length (places k g (laid t)))) i ∙ listed_front (places k g (laid t)) old m);
         few = omega (arith, n, ap length i, listed_length (places k g (laid t)) old m);
       }

@@ -10,7 +10,7 @@ use Rattle.cells.specs.Readings.{Reading}
 use Rattle.engine.specs.Rules.{Rule}
 use Rattle.engine.specs.Finding.{finding}
 use Rattle.records.specs.declared.Body.{Body}
-use Rattle.records.specs.Marks.{draft as draft_mark, tile as tile-mark}
+use Rattle.records.specs.Marks.{draft as draft_mark, tile as tile_mark}
 use Rattle.records.specs.Entries.{Entry, entry_of}
 use Rattle.lines.specs.declared.Line.{Line}
 use Rattle.lines.specs.declared.Line.TheVariants.{Tile as TileLine, Draft}
@@ -42,23 +42,23 @@ module _ {C : Type 0} (k : Kind C) (rule : Rule C) (g : Grid C) where
 -- a search of a draft that showed the grid g has been through the first i of the tile bodies bs
 pub record Searched {C : Type 0} (k : Kind C) (r : Reading C) (rule : Rule C) (g h : Grid C) (bs : List Body) (i : ℕ) (old new : List Line) : Type 0 where
   pub same : h ≡ g
-  pub lines : new ≡ old ++ added k rule g r (map (entry_of tile-mark) bs) i
+  pub lines : new ≡ old ++ added k rule g r (map (entry_of tile_mark) bs) i
 
 module _ {C : Type 0} (k : Kind C) (r : Reading C) (rule : Rule C) (g : Grid C) (bs : List Body) where
   pub searched_none : (old : List Line) → Searched k r rule g g bs 0 old old
   searched_none old = record { same = refl; lines = sym (append-nil old) }
 
-  pub searched_more : (h j : Grid C) (i : ℕ) (d : Body) (old mid new more : List Line) → i < length bs → j ≡ h → more ≡ tile_lines k rule h i (entry_tile r (entry_of tile-mark (get_or bs i d))) → new ≡ mid ++ more → Searched k r rule g h bs i old mid → Searched k r rule g j bs (i + 1) old new
+  pub searched_more : (h j : Grid C) (i : ℕ) (d : Body) (old mid new more : List Line) → i < length bs → j ≡ h → more ≡ tile_lines k rule h i (entry_tile r (entry_of tile_mark (get_or bs i d))) → new ≡ mid ++ more → Searched k r rule g h bs i old mid → Searched k r rule g j bs (i + 1) old new
   searched_more h j i d old mid new more l s m e c =
-      let es = map (entry_of tile-mark) bs in
-      let x = entry_of tile-mark (get_or bs i d) in
-      let n : i < length es = omega (arith, length-map bs (entry_of tile-mark)) in
-      let y : get_or es i x ≡ x = get_or-map (entry_of tile-mark) bs i d x l in
+      let es = map (entry_of tile_mark) bs in
+      let x = entry_of tile_mark (get_or bs i d) in
+      let n : i < length es = omega (arith, length-map bs (entry_of tile_mark)) in
+      let y : get_or es i x ≡ x = get_or-map (entry_of tile_mark) bs i d x l in
       let z : more ≡ tile_lines k rule g i (entry_tile r (get_or es i x)) = m ∙ (ap (λ u. tile_lines k rule u i (entry_tile r x)) c.same ∙ ap (λ u. tile_lines k rule g i (entry_tile r u)) (sym y)) in
       record {
         same = s ∙ c.same;
         lines = e ∙ (ap (λ u. u ++ more) c.lines ∙ (append_assoc old (added k rule g r es i) more ∙ ap (λ u. old ++ u) (ap (λ u. added k rule g r es i ++ u) z ∙ sym (added_more k rule g r es i x n))));
       }
 
-  pub searched_all : (h : Grid C) (i : ℕ) (old new : List Line) → length bs ≤ i → Searched k r rule g h bs i old new → new ≡ old ++ tiles_lines k rule g 0 (map (entry_tile r) (map (entry_of tile-mark) bs))
-  searched_all h i old new l c = c.lines ∙ ap (λ es. old ++ tiles_lines k rule g 0 (map (entry_tile r) es)) (take_all i (map (entry_of tile-mark) bs) (omega (arith, length-map bs (entry_of tile-mark))))
+  pub searched_all : (h : Grid C) (i : ℕ) (old new : List Line) → length bs ≤ i → Searched k r rule g h bs i old new → new ≡ old ++ tiles_lines k rule g 0 (map (entry_tile r) (map (entry_of tile_mark) bs))
+  searched_all h i old new l c = c.lines ∙ ap (λ es. old ++ tiles_lines k rule g 0 (map (entry_tile r) es)) (take_all i (map (entry_of tile_mark) bs) (omega (arith, length-map bs (entry_of tile_mark))))

@@ -8,7 +8,7 @@ use Rattle.cells.specs.Readings.{Reading}
 use Rattle.readings.specs.CellLists.{cells_of}
 use Rattle.drafts.specs.Making.{sheet}
 use Rattle.engine.specs.Rules.{Rule}
-use Rattle.records.specs.Marks.{Mark, draft, tile as tile-mark, unknown}
+use Rattle.records.specs.Marks.{Mark, draft, tile as tile_mark, unknown}
 use Rattle.records.specs.Entries.{Entry, FaultAt}
 use Rattle.records.specs.Files.{File, file}
 use Rattle.lines.specs.declared.Line.{Line}
@@ -26,7 +26,7 @@ fault_lines (Some f) = Fault f.number f.at ∷ []
 -- what a record adds to the tile records before the next, by its mark
 abbrev pub tiles_at : List Entry → Entry → Mark → List Entry
 tiles_at ts e draft = ts
-tiles_at ts e tile-mark = ts ++ e ∷ []
+tiles_at ts e tile_mark = ts ++ e ∷ []
 tiles_at ts e unknown = ts
 
 module _ {C : Type 0} where
@@ -58,7 +58,7 @@ module _ {C : Type 0} where
   -- what a record adds to the lines, by its mark
   abbrev pub lines_at : Kind C → Reading C → Rule C → List Entry → Entry → Mark → List Line
   lines_at k r rule ts e draft = draft_lines k r rule ts e
-  lines_at k r rule ts e tile-mark = []
+  lines_at k r rule ts e tile_mark = []
   lines_at k r rule ts e unknown = []
 
   -- the lines of records that follow the tile records ts

@@ -2,11 +2,11 @@
 #![tactic(auto)]
 
 ghost use Rattle.std.specs.Prelude.{◌≡◌, ◌*◌, ◌≤◌, [], ◌∷◌, ◌++◌, map, length, take, IfOk, OnOk};
-ghost use Rattle.std.specs.List.{AllByRecursion as All};
+ghost use Rattle.std.specs.List.{AllByRecursion};
 ghost use Rattle.grids.specs.Grids.{laid};
 ghost use Rattle.grids.specs.Places.{places};
 ghost use Rattle.engine.specs.Finding.{finding};
-ghost use Rattle.records.specs.Marks.{draft as draft_mark, tile as tile-mark, limit};
+ghost use Rattle.records.specs.Marks.{draft as draft_mark, tile as tile_mark, limit};
 ghost use Rattle.records.specs.Entries.{entry_of, entry};
 ghost use Rattle.records.specs.Files.{file};
 ghost use Rattle.records.specs.Sound.{Sound};
@@ -93,7 +93,7 @@ fn report_record<'a, C: Cell, E: Engine<C>>(
     lines: &mut Vec<Line>,
 ) -> Result<(), AllocError>
     requires sound { Sound C.Cell.reading (limit (entry «record»).mark) (entry «record») }
-    requires tiles { All (λ b. Sound C.Cell.reading 32 (entry_of tile-mark b)) tiles.old.items }
+    requires tiles { AllByRecursion (λ b. Sound C.Cell.reading 32 (entry_of tile_mark b)) tiles.old.items }
     requires room { (12288 ≤ length work.old) × (1024 ≤ length cells.old) }
     ensures { OnOk result (Reported C.Cell.kind C.Cell.reading E.Engine.rule (entry «record».entry) tiles.old.items tiles.new.items lines.old.items lines.new.items) }
 {
@@ -117,9 +117,9 @@ fn report_draft<C: Cell, E: Engine<C>>(
     lines: &mut Vec<Line>,
 ) -> Result<(), AllocError>
     requires sound { Sound C.Cell.reading 2048 (entry_of draft_mark body.now) }
-    requires tiles { All (λ b. Sound C.Cell.reading 32 (entry_of tile-mark b)) tiles.now }
+    requires tiles { AllByRecursion (λ b. Sound C.Cell.reading 32 (entry_of tile_mark b)) tiles.now }
     requires room { (12288 ≤ length work.old) × (1024 ≤ length cells.old) }
-    ensures { OnOk result (lines.new.items ≡ lines.old.items ++ draft_lines C.Cell.kind C.Cell.reading E.Engine.rule (map (entry_of tile-mark) tiles.now) (entry_of draft_mark body.now)) }
+    ensures { OnOk result (lines.new.items ≡ lines.old.items ++ draft_lines C.Cell.kind C.Cell.reading E.Engine.rule (map (entry_of tile_mark) tiles.now) (entry_of draft_mark body.now)) }
 {
     let made: Result<ByteSheet<C>, Refusal> = <ByteSheet<'_, _> as OverBytes<'_, _>>::over(
         body.rows, body.cols, body.cells,
@@ -153,10 +153,10 @@ fn report_tiles<C: Cell, D: Draft<Cell = C>, E: Engine<C>>(
     list: &mut [Position],
     lines: &mut Vec<Line>,
 ) -> Result<(), AllocError>
-    requires tiles { All (λ b. Sound C.Cell.reading 32 (entry_of tile-mark b)) tiles.now }
+    requires tiles { AllByRecursion (λ b. Sound C.Cell.reading 32 (entry_of tile_mark b)) tiles.now }
     requires room { (12288 ≤ length work.old) × (1024 ≤ length cells.old) }
     requires long { (D.Draft.shows draft.old).grid.rows * (D.Draft.shows draft.old).grid.cols ≤ length list.old }
-    ensures { OnOk result (lines.new.items ≡ lines.old.items ++ tiles_lines C.Cell.kind E.Engine.rule (D.Draft.shows draft.old).grid 0 (map (entry_tile C.Cell.reading) (map (entry_of tile-mark) tiles.now))) }
+    ensures { OnOk result (lines.new.items ≡ lines.old.items ++ tiles_lines C.Cell.kind E.Engine.rule (D.Draft.shows draft.old).grid 0 (map (entry_tile C.Cell.reading) (map (entry_of tile_mark) tiles.now))) }
 {
     for (n, tile) in tiles.iter().enumerate() {
         let Found { places, looks } = find_tile(engine, draft, tile, work, cells, list);
@@ -174,11 +174,11 @@ fn find_tile<C: Cell, D: Draft<Cell = C>, E: Engine<C>>(
     cells: &mut [C],
     list: &mut [Position],
 ) -> Found
-    requires sound { Sound C.Cell.reading 32 (entry_of tile-mark body.now) }
+    requires sound { Sound C.Cell.reading 32 (entry_of tile_mark body.now) }
     requires room { (12288 ≤ length work.old) × (1024 ≤ length cells.old) }
     requires long { (D.Draft.shows draft.old).grid.rows * (D.Draft.shows draft.old).grid.cols ≤ length list.old }
-    ensures answer { result ≡ finding C.Cell.kind E.Engine.rule (D.Draft.shows draft.old).grid (laid (entry_tile C.Cell.reading (entry_of tile-mark body.now))) }
-    ensures listing { take result.places list.new ≡ places C.Cell.kind (D.Draft.shows draft.old).grid (laid (entry_tile C.Cell.reading (entry_of tile-mark body.now))) }
+    ensures answer { result ≡ finding C.Cell.kind E.Engine.rule (D.Draft.shows draft.old).grid (laid (entry_tile C.Cell.reading (entry_of tile_mark body.now))) }
+    ensures listing { take result.places list.new ≡ places C.Cell.kind (D.Draft.shows draft.old).grid (laid (entry_tile C.Cell.reading (entry_of tile_mark body.now))) }
     ensures few { result.places ≤ length list.new }
     ensures same { (D.Draft.shows draft.new).grid ≡ (D.Draft.shows draft.old).grid }
 {

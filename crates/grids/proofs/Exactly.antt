@@ -1,6 +1,6 @@
 -- `places` lists exactly the places of a tile, each once, in reading order.
 use Rattle.std.proofs.Common.{◌≡◌, ℕ, zero, suc, ◌+◌, ◌<◌, Bool, true, false, ltb, ◌⊎◌, List, [], ◌∷◌, ◌++◌, length, filter, sym, refl, ap, ◌∙◌, subst, inl, inr, ⊎_elim, add-one, arith}
-use Rattle.std.specs.List.{ContainsAt as Has, AllByRecursion as All}
+use Rattle.std.specs.List.{ContainsAt as Has, AllByRecursion}
 use Rattle.std.proofs.lemmas.Bool.{cond_both, cond-true, cases_lt, both_ways, lt-ltb}
 use Rattle.std.proofs.ByRecursion.{All-append, All-weaker, All-push, all-has, has_get_or, has_append_left, has_append_right, has_push, all_kept_by, kept_by_passes}
 use Rattle.std.proofs.lemmas.List.FromFn.{get_or-map-range_with_len}
@@ -12,7 +12,7 @@ use Rattle.grids.proofs.Spots.{row_spots_more, spots_more, length-row_spots}
 use Rattle.grids.proofs.Testing.{lies_tells, lies_made}
 
 -- the alignments, in reading order
-order_append : (xs ys : List Position) → InOrder xs → InOrder ys → All (λ x. All (Earlier x) ys) xs → InOrder (xs ++ ys)
+order_append : (xs ys : List Position) → InOrder xs → InOrder ys → AllByRecursion (λ x. AllByRecursion (Earlier x) ys) xs → InOrder (xs ++ ys)
 order_append [] ys a b c = b
 order_append (x ∷ xs) ys a b c = (All-append (Earlier x) xs ys a.0 c.0, order_append xs ys a.1 b c.1)
 
@@ -20,10 +20,10 @@ order_kept : (p : Position → Bool) (xs : List Position) → InOrder xs → InO
 order_kept p [] a = tt
 order_kept p (x ∷ xs) a = cond_both (p x) (x ∷ filter p xs) (filter p xs) InOrder (λ _. (all_kept_by p (Earlier x) xs a.0, order_kept p xs a.1)) (λ _. order_kept p xs a.1)
 
-row_all : (n r : ℕ) → All (λ q. (q.row ≡ r) × (q.col < n)) (row_spots n r)
+row_all : (n r : ℕ) → AllByRecursion (λ q. (q.row ≡ r) × (q.col < n)) (row_spots n r)
 row_all zero r = tt
 row_all (suc n) r =
-    let P : ℕ → List Position → Type 0 = λ m xs. All (λ q. (q.row ≡ r) × (q.col < m)) xs in
+    let P : ℕ → List Position → Type 0 = λ m xs. AllByRecursion (λ q. (q.row ≡ r) × (q.col < m)) xs in
     let h : P (suc n) (row_spots n r) = All-weaker (λ q. (q.row ≡ r) × (q.col < n)) (λ q. (q.row ≡ r) × (q.col < suc n)) (λ q a. (a.0, omega (arith, a.1))) (row_spots n r) (row_all n r) in
     let k : P (suc n) (row_spots n r ++ (record { row = r; col = n }) ∷ []) = All-push (λ q. (q.row ≡ r) × (q.col < suc n)) (row_spots n r) (record { row = r; col = n }) h (refl, omega arith) in
     subst (P (suc n)) (sym (row_spots_more n r) ∙ ap (λ m. row_spots m r) (add-one n)) k
@@ -32,12 +32,12 @@ row_order : (n r : ℕ) → InOrder (row_spots n r)
 row_order zero r = tt
 row_order (suc n) r =
     subst InOrder (sym (row_spots_more n r) ∙ ap (λ m. row_spots m r) (add-one n))
-    (order_append (row_spots n r) ((record { row = r; col = n }) ∷ []) (row_order n r) (tt, tt) (All-weaker (λ q. (q.row ≡ r) × (q.col < n)) (λ q. All (Earlier q) ((record { row = r; col = n }) ∷ [])) (λ q a. (inr a, tt)) (row_spots n r) (row_all n r)))
+    (order_append (row_spots n r) ((record { row = r; col = n }) ∷ []) (row_order n r) (tt, tt) (All-weaker (λ q. (q.row ≡ r) × (q.col < n)) (λ q. AllByRecursion (Earlier q) ((record { row = r; col = n }) ∷ [])) (λ q a. (inr a, tt)) (row_spots n r) (row_all n r)))
 
-spots_all : (m n : ℕ) → All (λ q. (q.row < m) × (q.col < n)) (spots m n)
+spots_all : (m n : ℕ) → AllByRecursion (λ q. (q.row < m) × (q.col < n)) (spots m n)
 spots_all zero n = tt
 spots_all (suc m) n =
-    let P : List Position → Type 0 = λ xs. All (λ q. (q.row < suc m) × (q.col < n)) xs in
+    let P : List Position → Type 0 = λ xs. AllByRecursion (λ q. (q.row < suc m) × (q.col < n)) xs in
     subst P (sym (spots_more m n) ∙ ap (λ i. spots i n) (add-one m))
     (All-append (λ q. (q.row < suc m) × (q.col < n)) (spots m n) (row_spots n m)
     (All-weaker (λ q. (q.row < m) × (q.col < n)) (λ q. (q.row < suc m) × (q.col < n)) (λ q a. (omega (arith, a.0), a.1)) (spots m n) (spots_all m n))
@@ -48,7 +48,7 @@ spots_order zero n = tt
 spots_order (suc m) n =
     subst InOrder (sym (spots_more m n) ∙ ap (λ i. spots i n) (add-one m))
     (order_append (spots m n) (row_spots n m) (spots_order m n) (row_order n m)
-    (All-weaker (λ q. (q.row < m) × (q.col < n)) (λ q. All (Earlier q) (row_spots n m))
+    (All-weaker (λ q. (q.row < m) × (q.col < n)) (λ q. AllByRecursion (Earlier q) (row_spots n m))
     (λ q a. All-weaker (λ p. (p.row ≡ m) × (p.col < n)) (Earlier q) (λ p b. inl (omega (arith, a.0, b.0))) (row_spots n m) (row_all n m))
     (spots m n) (spots_all m n)))
 
@@ -70,7 +70,7 @@ has_spots (suc m) n r c h k =
 
 -- a filter keeps what passes
 module _ {X : Type 0} (p : X → Bool) where
-  has_kept_all : (xs : List X) → All (λ y. p y ≡ true → Has (filter p xs) y) xs
+  has_kept_all : (xs : List X) → AllByRecursion (λ y. p y ≡ true → Has (filter p xs) y) xs
   has_kept_all [] = tt
   has_kept_all (x ∷ xs) = (
     (λ e. subst (λ ys. Has ys x) (sym (cond-true (p x) (x ∷ filter p xs) (filter p xs) e)) (has_append_left (x ∷ []) (filter p xs) x (has_push [] x))),
@@ -80,12 +80,12 @@ module _ {X : Type 0} (p : X → Bool) where
   has_kept : (xs : List X) (x : X) → Has xs x → p x ≡ true → Has (filter p xs) x
   has_kept xs x h = all-has (λ y. p y ≡ true → Has (filter p xs) y) xs x (has_kept_all xs) h
 
-all_both : {X : Type 0} (P Q R : X → Type 0) → ((x : X) → P x → Q x → R x) → (xs : List X) → All P xs → All Q xs → All R xs
+all_both : {X : Type 0} (P Q R : X → Type 0) → ((x : X) → P x → Q x → R x) → (xs : List X) → AllByRecursion P xs → AllByRecursion Q xs → AllByRecursion R xs
 all_both P Q R f [] a b = tt
 all_both P Q R f (x ∷ xs) a b = (f x a.0 b.0, all_both P Q R f xs a.1 b.1)
 
 -- a list of positions is not empty just where something of it can be had
-some_from : (P : ℕ → ℕ → Type 0) (xs : List Position) → All (λ q. P q.row q.col) xs → ltb 0 (length xs) ≡ true → (r : ℕ) × (c : ℕ) × P r c
+some_from : (P : ℕ → ℕ → Type 0) (xs : List Position) → AllByRecursion (λ q. P q.row q.col) xs → ltb 0 (length xs) ≡ true → (r : ℕ) × (c : ℕ) × P r c
 some_from P [] a h = absurd (both_ways false refl h)
 some_from P (q ∷ xs) a h = (q.row, q.col, a.0)
 
@@ -97,7 +97,7 @@ exactly {C} k lawful g t v =
     let m : ℕ = heights g (laid t) in
     let n : ℕ = widths g (laid t) in
     let p : Position → Bool = lies k g (laid t) in
-    let sound : All (λ q. Place g (laid t) q.row q.col) (places k g (laid t)) =
+    let sound : AllByRecursion (λ q. Place g (laid t) q.row q.col) (places k g (laid t)) =
     all_both (λ q. (q.row < m) × (q.col < n)) (λ q. p q ≡ true) (λ q. Place g (laid t) q.row q.col)
     (λ q a e. record { row_fits = omega (arith, a.0); col_fits = omega (arith, a.1); agree = lies_tells k lawful g t v q e })
     (filter p (spots m n)) (all_kept_by p (λ q. (q.row < m) × (q.col < n)) (spots m n) (spots_all m n)) (kept_by_passes p (spots m n)) in

@@ -16,12 +16,12 @@ module _ {C : Type 0} where
   nth_some (x ∷ xs) zero h = refl
   nth_some (x ∷ xs) (suc i) h = nth_some xs i (omega arith)
 
-  pub laid-inside : (t : Tile C) (r c : ℕ) → r < t.rows → c < t.cols → inside (laid t) r c ≡ true
-  laid-inside t r c h k = and_from (ltb r t.rows) (ltb c t.cols) (lt-ltb r t.rows h) (lt-ltb c t.cols k)
+  pub laid_inside : (t : Tile C) (r c : ℕ) → r < t.rows → c < t.cols → inside (laid t) r c ≡ true
+  laid_inside t r c h k = and_from (ltb r t.rows) (ltb c t.cols) (lt-ltb r t.rows h) (lt-ltb c t.cols k)
 
   -- what a laid grid has inside
   pub laid_nth : (t : Tile C) (r c : ℕ) → r < t.rows → c < t.cols → (laid t).at r c ≡ slice_get t.cells (r * t.cols + c)
-  laid_nth t r c h k = cond-true _ _ _ (laid-inside t r c h k)
+  laid_nth t r c h k = cond-true _ _ _ (laid_inside t r c h k)
 
   pub laid_at : (t : Tile C) (r c : ℕ) (d : C) → length t.cells ≡ t.rows * t.cols → r < t.rows → c < t.cols → (laid t).at r c ≡ Some (get_or t.cells (r * t.cols + c) d)
   laid_at t r c d e h k = laid_nth t r c h k ∙ slice_get-get_or t.cells (r * t.cols + c) d (place_within t.rows t.cols r c (length t.cells) e h k)

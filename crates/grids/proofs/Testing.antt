@@ -6,7 +6,7 @@ use Rattle.grids.specs.declared.Position.{Position}
 use Rattle.grids.specs.Kinds.{Kind, Lawful}
 use Rattle.grids.specs.Grids.{Grid, Tile, Valid, laid}
 use Rattle.grids.specs.Places.{alike, agree_at, all_from, lies}
-use Rattle.grids.proofs.Laid.{laid_at, laid_some, laid-inside}
+use Rattle.grids.proofs.Laid.{laid_at, laid_some, laid_inside}
 
 module _ (p : ℕ → Bool) where
   all_tells : (k n : ℕ) → all_from p k n ≡ true → (i : ℕ) → i < n → p (k + i) ≡ true
@@ -54,4 +54,4 @@ module _ {C : Type 0} (kind : Kind C) (lawful : Lawful kind) where
         let a : k / t.cols < t.rows = div_below k t.cols t.rows valid.some_cols l in
         let b : k % t.cols < t.cols = mod_below k t.cols valid.some_cols in
         ap (agree_at kind g (laid t) q) z
-        ∙ alike_made (g.at (q.row + k / t.cols) (q.col + k % t.cols)) ((laid t).at (k / t.cols) (k % t.cols)) (h (k / t.cols) (k % t.cols) a b) (laid_some t (k / t.cols) (k % t.cols) valid.whole ∙ laid-inside t (k / t.cols) (k % t.cols) a b))
+        ∙ alike_made (g.at (q.row + k / t.cols) (q.col + k % t.cols)) ((laid t).at (k / t.cols) (k % t.cols)) (h (k / t.cols) (k % t.cols) a b) (laid_some t (k / t.cols) (k % t.cols) valid.whole ∙ laid_inside t (k / t.cols) (k % t.cols) a b))

@@ -30,5 +30,5 @@ module _ {X : Type 0} where
   pub listed_first : (xs old : List X) (n : ℕ) → n ≡ min (length old) (length xs) → take n (listed xs old) ≡ take (length old) xs
   listed_first xs old n e = take_at (take (length old) xs) (drop (length xs) old) n (length-take (length old) xs ∙ sym e)
 
-  pub listed-front : (xs old : List X) → length xs ≤ length old → take (length xs) (listed xs old) ≡ xs
-  listed-front xs old h = listed_first xs old (length xs) (omega arith) ∙ take_all (length old) xs h
+  pub listed_front : (xs old : List X) → length xs ≤ length old → take (length xs) (listed xs old) ≡ xs
+  listed_front xs old h = listed_first xs old (length xs) (omega arith) ∙ take_all (length old) xs h

@@ -1,6 +1,6 @@
 -- The places of a tile in a grid. Assumes nothing.
 use Rattle.std.specs.Prelude.{◌≡◌, ℕ, zero, suc, ◌+◌, ◌-◌, ◌*◌, ◌/◌, ◌%◌, ◌<◌, ◌≤◌, Bool, true, false, ◌&&◌, ◌⊎◌, List, [], ◌∷◌, map, length, Some, None, Decides, filter, Option, nat_lt}
-use Rattle.std.specs.List.{range_with_len, ContainsAt as Has, flat_map, AllByRecursion as All}
+use Rattle.std.specs.List.{range_with_len, ContainsAt as Has, flat_map, AllByRecursion}
 use Rattle.grids.specs.declared.Position.{Position}
 use Rattle.grids.specs.Kinds.{Kind}
 use Rattle.grids.specs.Grids.{Grid, Tile, laid}
@@ -25,7 +25,7 @@ Earlier p q = (p.row < q.row) ⊎ ((p.row ≡ q.row) × (p.col < q.col))
 -- each position comes before all that follow it, so none is listed twice
 abbrev pub InOrder : List Position → Type 0
 InOrder [] = Unit {0}
-InOrder (p ∷ ps) = All (Earlier p) ps × InOrder ps
+InOrder (p ∷ ps) = AllByRecursion (Earlier p) ps × InOrder ps
 
 module _ {C : Type 0} where
   -- laid over g with its corner at (r, c), t stays inside g and every cell agrees
@@ -70,7 +70,7 @@ module _ {C : Type 0} where
 
   -- `places` holds exactly the places of the tile, each once, in reading order, and `has-place?` tells whether there is one
   pub record Exact (k : Kind C) (g : Grid C) (t : Tile C) : Type 0 where
-    pub sound : All (λ q. Place g (laid t) q.row q.col) (places k g (laid t))
+    pub sound : AllByRecursion (λ q. Place g (laid t) q.row q.col) (places k g (laid t))
     pub complete : (r c : ℕ) → Place g (laid t) r c → Has (places k g (laid t)) (record { row = r; col = c })
     pub ordered : InOrder (places k g (laid t))
     pub decided : Decides (has_place k g (laid t)) ((r : ℕ) × (c : ℕ) × Place g (laid t) r c)

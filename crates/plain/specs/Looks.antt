@@ -1,7 +1,7 @@
 -- How many looks the plain engine takes. Assumes nothing.
 use Rattle.std.specs.Prelude.{ℕ, zero, suc, ◌+◌, ◌*◌, ◌≤◌, Bool, cond, List, [], ◌∷◌, sum_by}
 use Rattle.std.proofs.Common.{arith}
-use Rattle.std.specs.List.{AllByRecursion as All}
+use Rattle.std.specs.List.{AllByRecursion}
 use Rattle.std.proofs.ByRecursion.{sum_by_le}
 use Rattle.std.proofs.lemmas.Bool.{cond_both}
 use Rattle.grids.specs.declared.Position.{Position}
@@ -29,7 +29,7 @@ pub tested_le : (p : ℕ → Bool) (i n : ℕ) → tested_from p i n ≤ n
 tested_le p i zero = omega arith
 tested_le p i (suc n) = cond_both (p i) (tested_from p (i + 1) n) 0 (λ m. 1 + m ≤ suc n) (λ _. omega (arith, tested_le p (i + 1) n)) (λ _. omega arith)
 
-all_each : {X : Type 0} (P : X → Type 0) → ((x : X) → P x) → (xs : List X) → All P xs
+all_each : {X : Type 0} (P : X → Type 0) → ((x : X) → P x) → (xs : List X) → AllByRecursion P xs
 all_each P f [] = tt
 all_each P f (x ∷ xs) = (f x, all_each P f xs)
 

@@ -9,8 +9,8 @@ use Rattle.records.specs.Fronts.{mark_in, after_mark, body_checks, record_fault,
 pub mark_draft : (a b : ℕ) → a ≡ 68 → b ≡ 82 → mark a b ≡ draft
 mark_draft a b e f = rw (e, f) refl
 
-pub mark-tile : (a b : ℕ) → a ≡ 84 → b ≡ 76 → mark a b ≡ tile
-mark-tile a b e f = rw (e, f) refl
+pub mark_tile : (a b : ℕ) → a ≡ 84 → b ≡ 76 → mark a b ≡ tile
+mark_tile a b e f = rw (e, f) refl
 
 -- what is read after a known mark m is what the record is read as
 pub marked : {C : Type 0} (k : Reading C) (bs rest : List ℕ) (m : Mark) → 2 ≤ length bs → rest ≡ after_mark bs → mark_in bs ≡ m → known m ≡ true → unless (first_failed (body_checks k (limit m) (size_number m) rest)) (parted k m rest) ≡ unless (record_fault k bs) (parted k (mark_in bs) (after_mark bs))

@@ -5,7 +5,7 @@ use Rattle.std.proofs.lemmas.Bool.{le-leb}
 use Rattle.grids.specs.Grids.{Valid, tile}
 use Rattle.grids.specs.Listed.{listed}
 use Rattle.grids.specs.Refusals.{kept_or}
-use Rattle.grids.proofs.Writing.{listed-front}
+use Rattle.grids.proofs.Writing.{listed_front}
 use Rattle.cells.specs.Readings.{Reading}
 use Rattle.readings.specs.CellLists.{read_refusal}
 use Rattle.readings.proofs.InTurn.{length_cells}
@@ -31,7 +31,7 @@ front_cells r e old new s h f =
     let l = length_cells r n e.bytes s.read in
     let z : n - 0 ≡ length (entry_cells r e) = omega arith in
     let g : new ≡ listed (entry_cells r e) old = f ∙ ap (λ o. kept_or o old (listed (entry_cells r e) old)) (reads_in r e (length old) s h) in
-    ap (λ m. take m new) z ∙ (ap (take (length (entry_cells r e))) g ∙ listed-front (entry_cells r e) old (omega (arith, l, sound_few r e s)))
+    ap (λ m. take m new) z ∙ (ap (take (length (entry_cells r e))) g ∙ listed_front (entry_cells r e) old (omega (arith, l, sound_few r e s)))
 
-pub front-tile : {C : Type 0} (r : Reading C) (e : Entry) (old new : List C) → Sound r 32 e → 1024 ≤ length old → new ≡ kept_or (read_refusal r (e.rows * e.cols) e.bytes (length old)) old (listed (entry_cells r e) old) → tile e.rows e.cols (take (e.rows * e.cols - 0) new) ≡ entry_tile r e
-front-tile r e old new s h f = ap (tile e.rows e.cols) (front_cells r e old new s h f)
+pub front_tile : {C : Type 0} (r : Reading C) (e : Entry) (old new : List C) → Sound r 32 e → 1024 ≤ length old → new ≡ kept_or (read_refusal r (e.rows * e.cols) e.bytes (length old)) old (listed (entry_cells r e) old) → tile e.rows e.cols (take (e.rows * e.cols - 0) new) ≡ entry_tile r e
+front_tile r e old new s h f = ap (tile e.rows e.cols) (front_cells r e old new s h f)

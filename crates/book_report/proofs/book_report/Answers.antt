@@ -6,7 +6,7 @@ use Rattle.lines.specs.declared.Line.TheVariants.{TooLong}
 use Rattle.records.specs.Files.{file}
 use Rattle.reports.proofs.Files.{report_short, report_long}
 use Rattle.book_report.specs.Report.{says, next}
-use Rattle.book_report.proofs.Stores.{file-alike}
+use Rattle.book_report.proofs.Stores.{file_alike}
 use Rattle.book_report.proofs.book_report.Goals as goal
 
 pub returns-in_err-cells : goal.returns-in_err-cells
@@ -24,7 +24,7 @@ returns g c =
     let long : length own ≡ 4096 = search rules in
     IfOk-weaker c.report_file.result _ _
     (λ v h. record {
-      lines = λ store l. h ∙ (file-alike k r (empty own) (empty store) (file r bs) (record { tiles = refl; long = long ∙ sym l }) ∙ report_short (says k r) (next k r) r (empty store) bs (omega arith));
+      lines = λ store l. h ∙ (file_alike k r (empty own) (empty store) (file r bs) (record { tiles = refl; long = long ∙ sym l }) ∙ report_short (says k r) (next k r) r (empty store) bs (omega arith));
       exact = exactly k g.met.C.Cell.lawful;
     })
     c.report_file.ensures

@@ -4,7 +4,7 @@ use Rattle.grids.specs.Grids.{Tile, tile}
 use Rattle.grids.proofs.Refusing.{not_refused}
 use Rattle.engine.specs.Finding.{find_refusal}
 use Rattle.engine.proofs.Accepting.{accepts}
-use Rattle.records.specs.Marks.{tile as tile-mark}
+use Rattle.records.specs.Marks.{tile as tile_mark}
 use Rattle.records.specs.Entries.{entry_of}
 use Rattle.find_report.specs.Report.{entry_tile}
 use Rattle.find_report.proofs.Found.{reads_in, front_cells, sound_valid, sound_few, finds}
@@ -12,14 +12,14 @@ use Rattle.find_report.proofs.find_tile.Goals as goal
 
 pub unreachable-requires : goal.unreachable-requires
 unreachable-requires g c =
-    let e = entry_of tile-mark c.args.body.now in
+    let e = entry_of tile_mark c.args.body.now in
     not_refused _ _ (number c.in_default.field-0) (reads_in g.C.Cell.reading e (length c.args.cells.now) c.requires.sound c.requires.room.1) c.in_default.ensures.answer
 
 pub returns : goal.returns
 returns g c =
     let r = g.C.Cell.reading in
     let b = c.args.body.now in
-    let e = entry_of tile-mark b in
+    let e = entry_of tile_mark b in
     let t = entry_tile r e in
     let grid = (g.D.Draft.shows c.args.draft.now).grid in
     let cells = take (b.rows * b.cols - 0) c.read_cells.new.cells in
@@ -28,13 +28,13 @@ returns g c =
     record { answer = f.answer; listing = f.listing; few = f.few; same = c.find.ensures.same }
 
 pub overflow_mul-count : goal.overflow_mul-count
-overflow_mul-count g c = omega (arith, sound_few g.C.Cell.reading (entry_of tile-mark c.args.body.now) c.requires.sound)
+overflow_mul-count g c = omega (arith, sound_few g.C.Cell.reading (entry_of tile_mark c.args.body.now) c.requires.sound)
 
 pub unreachable-requires-in_default-find : goal.unreachable-requires-in_default-find
 unreachable-requires-in_default-find g c =
     let r = g.C.Cell.reading in
     let b = c.args.body.now in
-    let e = entry_of tile-mark b in
+    let e = entry_of tile_mark b in
     let w = length c.args.work.now in
     let cells = take (b.rows * b.cols - 0) c.read_cells.new.cells in
     let v : tile b.rows b.cols cells ≡ entry_tile r e = ap (tile b.rows b.cols) (front_cells r e c.args.cells.now c.read_cells.new.cells c.requires.sound c.requires.room.1 c.read_cells.ensures.cells) in

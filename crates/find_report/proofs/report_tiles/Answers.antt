@@ -4,7 +4,7 @@ use Rattle.lines.specs.declared.Line.{Line}
 use Rattle.lines.specs.declared.Line.TheVariants.{Tile}
 use Rattle.grids.specs.declared.Position.{Position}
 use Rattle.records.specs.declared.Body.{Body}
-use Rattle.records.specs.Marks.{tile as tile-mark}
+use Rattle.records.specs.Marks.{tile as tile_mark}
 use Rattle.records.specs.Entries.{entry_of}
 use Rattle.records.specs.Sound.{Sound}
 use Rattle.find_report.specs.Report.{entry_tile, place_line}
@@ -16,7 +16,7 @@ loop-n-init g c = (searched_none g.C.Cell.kind g.C.Cell.reading g.E.Engine.rule 
 
 pub find_tile-places-requires : goal.find_tile-places-requires
 find_tile-places-requires g c = record {
-  sound = All-get_or (λ b. Sound g.C.Cell.reading 32 (entry_of tile-mark b)) c.args.tiles.now c.loop-n.n _ (omega arith) c.requires.tiles;
+  sound = All-get_or (λ b. Sound g.C.Cell.reading 32 (entry_of tile_mark b)) c.args.tiles.now c.loop-n.n _ (omega arith) c.requires.tiles;
   room = (omega arith, omega arith);
   long = omega (arith, c.requires.long, c.loop-n.invariant.1, ap (λ u. u.rows * u.cols) c.loop-n.invariant.0.same);
 }
@@ -31,7 +31,7 @@ loop-n-preserved g c =
     let bs = c.args.tiles.now in
     let d : Body = record { rows = 0; cols = 0; cells = record { ref_ptr = (0, 0); now = [] } } in
     let f = c.find_tile-places.result in
-    let t = entry_tile r (entry_of tile-mark (get_or bs n d)) in
+    let t = entry_tile r (entry_of tile_mark (get_or bs n d)) in
     let listed : List Position = take (f.places - 0) c.find_tile-places.new.list in
     let l = ap (λ m. take m c.find_tile-places.new.list) (omega arith) ∙ c.find_tile-places.ensures.listing in
     let more : List Line = map (place_line n) listed ++ (Tile n (length listed) f.looks ∷ []) in (

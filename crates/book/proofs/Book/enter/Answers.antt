@@ -4,7 +4,7 @@ use Rattle.engine.specs.Views.{viewed}
 use Rattle.book.specs.Models.{held, sizes}
 use Rattle.book.specs.Entering.{enter_refusal, InsertionPoint}
 use Rattle.book.proofs.Cuts.{cells_cut}
-use Rattle.book.proofs.Tables.{tiles-counted}
+use Rattle.book.proofs.Tables.{tiles_counted}
 use Rattle.book.proofs.Insertions.{insertion_point_is}
 use Rattle.book.proofs.Accepting.{accepted}
 use Rattle.book.proofs.Book.enter.Goals as goal
@@ -14,7 +14,7 @@ put_in-requires g c =
     let b = c.args.self.now in
     let cs = c.args.store.now in
     let a = accepted g.C.Cell.kind (held b cs) (viewed c.args.tile.now) (sym c.in_default.ensures) in
-    record { few = omega (arith, a.1, tiles-counted b cs 0); valid = a.0; room = omega (arith, a.2, cells_cut (sizes b) cs) }
+    record { few = omega (arith, a.1, tiles_counted b cs 0); valid = a.0; room = omega (arith, a.2, cells_cut (sizes b) cs) }
 
 pub returns : goal.returns
 returns g c =

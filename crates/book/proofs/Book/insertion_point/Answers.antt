@@ -1,7 +1,7 @@
 use Rattle.std.proofs.Common.{arith}
 use Rattle.engine.specs.Views.{viewed}
 use Rattle.book.specs.Models.{held}
-use Rattle.book.proofs.Tables.{tiles-counted}
+use Rattle.book.proofs.Tables.{tiles_counted}
 use Rattle.book.proofs.Insertions.{insertion_more, insertion_here, insertion_end}
 use Rattle.book.proofs.Book.insertion_point.Goals as goal
 
@@ -11,7 +11,7 @@ returns-then-not-tile_before g c =
     let cs = c.args.store.now in
     let n = c.loop-n.n in
     record {
-      number = insertion_here g.C.Cell.kind (viewed c.args.tile.now) (held b cs).tiles n (viewed c.view.result) (omega (arith, tiles-counted b cs n)) c.view.ensures.tile c.if-not-tile_before.ensures.answer c.loop-n.invariant;
+      number = insertion_here g.C.Cell.kind (viewed c.args.tile.now) (held b cs).tiles n (viewed c.view.result) (omega (arith, tiles_counted b cs n)) c.view.ensures.tile c.if-not-tile_before.ensures.answer c.loop-n.invariant;
       few = omega arith;
     }
 
@@ -20,12 +20,12 @@ loop-n-preserved g c =
     let b = c.args.self.now in
     let cs = c.args.store.now in
     let n = c.loop-n.n in
-    insertion_more g.C.Cell.kind (viewed c.args.tile.now) (held b cs).tiles n (viewed c.view.result) (omega (arith, tiles-counted b cs n)) c.view.ensures.tile c.if-not-tile_before.ensures.answer c.loop-n.invariant
+    insertion_more g.C.Cell.kind (viewed c.args.tile.now) (held b cs).tiles n (viewed c.view.result) (omega (arith, tiles_counted b cs n)) c.view.ensures.tile c.if-not-tile_before.ensures.answer c.loop-n.invariant
 
 pub returns : goal.returns
 returns g c =
     let b = c.args.self.now in
     let cs = c.args.store.now in
     let n = c.loop-n.n in
-    let e = insertion_end g.C.Cell.kind (viewed c.args.tile.now) (held b cs).tiles n (omega (arith, tiles-counted b cs n)) c.loop-n.invariant in
+    let e = insertion_end g.C.Cell.kind (viewed c.args.tile.now) (held b cs).tiles n (omega (arith, tiles_counted b cs n)) c.loop-n.invariant in
     record { number = omega (arith, e); few = omega arith }

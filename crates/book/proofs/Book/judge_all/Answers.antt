@@ -1,7 +1,7 @@
 use Rattle.std.proofs.Common.{◌≤◌, length, sum_by, sym, refl, ap, ◌∙◌, arith}
 use Rattle.book.specs.Table.{area, size_of}
 use Rattle.book.specs.Models.{held}
-use Rattle.book.proofs.Tables.{length_told, tiles-counted}
+use Rattle.book.proofs.Tables.{length_told, tiles_counted}
 use Rattle.book.proofs.Judged.{upto_none, upto_more, upto_all, held-judged, tried_same}
 use Rattle.book.proofs.Book.judge_all.Goals as goal
 
@@ -31,7 +31,7 @@ loop-n-preserved g c =
     let grid = (g.D.Draft.shows c.args.draft.now).grid in
     let l = c.loop-n in
     let e = c.judge_tile-sum.ensures in
-    let counted = tiles-counted b cs l.n in
+    let counted = tiles_counted b cs l.n in
     let told = length_told b (λ x. x.stops) in (
       e.same ∙ l.invariant.0,
       upto_more k rule grid (held b cs).tiles b _ l.n l.self c.judge_tile-sum.new.self l.sum c.judge_tile-sum.result _ _ (omega (arith, counted, c.loop-n-test.true)) (counted ∙ sym told) l.invariant.1
@@ -47,7 +47,7 @@ returns g c =
     let grid = (g.D.Draft.shows c.args.draft.now).grid in
     let l = c.loop-n in
     let u = l.invariant.1 in
-    let counted = tiles-counted b cs l.n in
+    let counted = tiles_counted b cs l.n in
     let told = length_told b (λ x. x.stops) in
     let all : length (held b cs).tiles ≤ l.n = omega (arith, counted, c.loop-n-test.false) in
     record {
