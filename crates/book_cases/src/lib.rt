@@ -5,12 +5,12 @@
 #[cfg(test)]
 mod faults;
 #[cfg(test)]
+mod files;
+#[cfg(test)]
 mod judges;
 #[cfg(test)]
 mod limits;
 #[cfg(test)]
 mod prints;
-#[cfg(test)]
-mod reports;
 #[cfg(test)]
 mod table;
