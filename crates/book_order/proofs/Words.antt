@@ -1,5 +1,5 @@
 -- The tests of book order say what the words do.
-use Rattle.std.proofs.Common.{◌≡◌, ℕ, zero, suc, ◌*◌, Bool, true, cond, ◌⊎◌, List, [], ◌∷◌, length, take, Some, Decides, sym, refl, ◌∙◌, subst, inl, inr, ⊎_elim, arith}
+use Rattle.std.proofs.Common.{◌≡◌, ℕ, zero, suc, ◌*◌, Bool, true, cond, List, [], ◌∷◌, length, take, Some, Decides, sym, refl, ◌∙◌, subst, inl, inr, ⊎_elim, arith}
 use Rattle.std.specs.List.{slice_get}
 use Rattle.std.proofs.lemmas.Bool.{both_ways, cond_both, ltb-true, lt-ltb}
 use Rattle.grids.specs.Kinds.{Kind, Lawful}

@@ -1,5 +1,5 @@
 -- What find answers, and what it leaves. Assumes nothing.
-use Rattle.std.specs.Prelude.{ℕ, ◌*◌, Bool, ◌&&◌, List, [], ◌∷◌, ◌++◌, length, Option, Result, ◌==◌, nat_le}
+use Rattle.std.specs.Prelude.{ℕ, ◌*◌, Bool, ◌&&◌, List, [], ◌∷◌, length, Option, Result, ◌==◌, nat_le}
 use Rattle.grids.specs.declared.Position.{Position}
 use Rattle.grids.specs.declared.Found.{Found}
 use Rattle.grids.specs.Kinds.{Kind}

@@ -1,22 +1,21 @@
 -- The lines of a file, one record after another.
-use Rattle.std.proofs.Common.{◌≡◌, ℕ, zero, suc, ◌+◌, ◌<◌, ◌≤◌, cond, ltb, List, [], ◌∷◌, ◌++◌, map, length, drop, Some, None, Ok, Err, Option, Result, sym, refl, ap, ◌∙◌, subst, append_assoc, arith}
+use Rattle.std.proofs.Common.{◌≡◌, ℕ, zero, suc, ◌+◌, ◌<◌, ◌≤◌, ltb, List, [], ◌∷◌, ◌++◌, map, length, drop, Some, None, Ok, Err, sym, refl, ap, ◌∙◌, subst, append_assoc, arith}
 use Rattle.std.specs.List.{AllByRecursion}
-use Rattle.std.proofs.ByRecursion.{All-push}
-use Rattle.std.proofs.lemmas.List.{append-nil, map_push, length-drop}
+use Rattle.std.proofs.lemmas.List.{append-nil, length-drop}
 use Rattle.std.proofs.lemmas.Bool.{cond-true, cond-false, lt-ltb, le-ltb}
 use Rattle.grids.specs.Kinds.{Kind}
 use Rattle.cells.specs.Readings.{Reading}
 use Rattle.engine.specs.Rules.{Rule}
 use Rattle.records.specs.declared.Body.{Body}
-use Rattle.records.specs.Marks.{draft as draft_mark, tile as tile_mark}
+use Rattle.records.specs.Marks.{tile as tile_mark}
 use Rattle.records.specs.Entries.{Entry, FaultAt, entry_of}
 use Rattle.records.specs.Fronts.{Front, end, faulty, whole, front, next_answer, handed_on, moved_to}
-use Rattle.records.specs.Files.{File, filed, file_from, file}
+use Rattle.records.specs.Files.{filed, file_from, file}
 use Rattle.records.specs.Sound.{Sound}
 use Rattle.records.proofs.Fronting.{Took, took}
 use Rattle.lines.specs.declared.Line.{Line}
 use Rattle.lines.specs.declared.Line.TheVariants.{Fault, TooLong}
-use Rattle.find_report.specs.Report.{draft_lines, fault_lines, lines_at, tiles_at, entries_lines, file_lines, report}
+use Rattle.find_report.specs.Report.{fault_lines, lines_at, tiles_at, entries_lines, file_lines, report}
 
 -- what a reader's answer tells of what stood before it
 at_end : (n : ℕ) (f : Front) → Ok None ≡ next_answer n f → f ≡ end

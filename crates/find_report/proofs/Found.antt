@@ -1,22 +1,22 @@
 -- What finding a tile of a file answers.
-use Rattle.std.proofs.Common.{◌≡◌, ℕ, ◌+◌, ◌-◌, ◌*◌, ◌≤◌, true, List, [], ◌∷◌, ◌++◌, length, take, drop, is_some, None, Ok, filter, sym, refl, ap, ◌∙◌, subst, arith}
+use Rattle.std.proofs.Common.{◌≡◌, ℕ, ◌-◌, ◌*◌, ◌≤◌, List, ◌++◌, length, take, drop, None, Ok, refl, ap, ◌∙◌, arith}
 use Rattle.std.proofs.lemmas.Nat.{mul-le}
-use Rattle.std.proofs.lemmas.List.{take_all, take_at, length-append, length-drop}
+use Rattle.std.proofs.lemmas.List.{take_all, take_at, length-append}
 use Rattle.std.proofs.lemmas.List.Sums.{length-filter, count_by-le-length}
 use Rattle.std.proofs.lemmas.Bool.{le-leb}
 use Rattle.grids.specs.declared.Found.{Found}
 use Rattle.grids.specs.declared.Position.{Position}
 use Rattle.grids.specs.Kinds.{Kind}
-use Rattle.grids.specs.Grids.{Grid, Tile, Valid, tile, laid}
+use Rattle.grids.specs.Grids.{Grid, Tile, Valid, laid}
 use Rattle.grids.specs.Places.{places, lies, spots, heights, widths}
 use Rattle.grids.specs.Listed.{listed}
 use Rattle.grids.specs.Refusals.{unless, kept_or}
 use Rattle.grids.proofs.Spots.{length-spots}
 use Rattle.cells.specs.Readings.{Reading}
-use Rattle.readings.specs.CellLists.{cells_read, cells_of, read_refusal}
+use Rattle.readings.specs.CellLists.{read_refusal}
 use Rattle.readings.proofs.InTurn.{length_cells}
 use Rattle.engine.specs.Rules.{Rule}
-use Rattle.engine.specs.Finding.{finding, find_refusal, find_answer, find_list}
+use Rattle.engine.specs.Finding.{finding, find_answer, find_list}
 use Rattle.engine.proofs.Accepting.{accepts}
 use Rattle.records.specs.Entries.{Entry}
 use Rattle.records.specs.Sound.{Sound}

@@ -1,5 +1,5 @@
 -- The lines of one tile after another.
-use Rattle.std.proofs.Common.{◌≡◌, ℕ, suc, ◌+◌, ◌*◌, ◌<◌, ◌≤◌, List, [], ◌∷◌, ◌++◌, map, length, get_or, take, sym, refl, ap, ◌∙◌, append_assoc, arith}
+use Rattle.std.proofs.Common.{◌≡◌, ℕ, suc, ◌+◌, ◌<◌, ◌≤◌, List, [], ◌∷◌, ◌++◌, map, length, get_or, take, sym, refl, ap, ◌∙◌, append_assoc, arith}
 use Rattle.std.proofs.lemmas.List.{map_more, append-nil, length-take-le, length-map, take_all, get_or-map}
 use Rattle.grids.specs.declared.Found.{Found}
 use Rattle.grids.specs.declared.Position.{Position}
@@ -10,11 +10,11 @@ use Rattle.cells.specs.Readings.{Reading}
 use Rattle.engine.specs.Rules.{Rule}
 use Rattle.engine.specs.Finding.{finding}
 use Rattle.records.specs.declared.Body.{Body}
-use Rattle.records.specs.Marks.{draft as draft_mark, tile as tile_mark}
+use Rattle.records.specs.Marks.{tile as tile_mark}
 use Rattle.records.specs.Entries.{Entry, entry_of}
 use Rattle.lines.specs.declared.Line.{Line}
-use Rattle.lines.specs.declared.Line.TheVariants.{Tile as TileLine, Draft}
-use Rattle.find_report.specs.Report.{place_line, entry_tile, tile_lines, tiles_lines, entry_grid, draft_lines}
+use Rattle.lines.specs.declared.Line.TheVariants.{Tile as TileLine}
+use Rattle.find_report.specs.Report.{place_line, entry_tile, tile_lines, tiles_lines}
 
 module _ {C : Type 0} (k : Kind C) (rule : Rule C) (g : Grid C) where
   -- one tile more

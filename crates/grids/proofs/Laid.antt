@@ -4,7 +4,7 @@ use Rattle.std.specs.List.{slice_get}
 use Rattle.std.proofs.lemmas.Nat.{mul-add-lt}
 use Rattle.std.proofs.lemmas.Option.{slice_get-get_or}
 use Rattle.std.proofs.lemmas.Bool.{and_from, lt-ltb, cond-true, cases_Bool, and_parts, ltb-true}
-use Rattle.grids.specs.Grids.{Tile, laid, inside, Drawn, tile}
+use Rattle.grids.specs.Grids.{Tile, laid, inside, Drawn}
 
 -- the number of a place inside is below the number of cells
 pub place_within : (rows cols r c n : ℕ) → n ≡ rows * cols → r < rows → c < cols → r * cols + c < n

@@ -1,6 +1,6 @@
-use Rattle.std.proofs.Common.{◌≡◌, ◌-◌, ◌*◌, length, take, sym, ap, ◌∙◌, arith, rules}
+use Rattle.std.proofs.Common.{◌≡◌, ◌-◌, ◌*◌, length, take, ap, ◌∙◌, arith}
 use Rattle.grids.specs.Numbers.{number}
-use Rattle.grids.specs.Grids.{Tile, tile}
+use Rattle.grids.specs.Grids.{tile}
 use Rattle.grids.proofs.Refusing.{not_refused}
 use Rattle.engine.specs.Finding.{find_refusal}
 use Rattle.engine.proofs.Accepting.{accepts}

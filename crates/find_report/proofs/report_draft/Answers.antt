@@ -1,11 +1,11 @@
-use Rattle.std.proofs.Common.{◌≡◌, List, [], ◌∷◌, ◌++◌, map, length, vec_items, sym, refl, ap, ◌∙◌, append_assoc, rules}
+use Rattle.std.proofs.Common.{[], ◌∷◌, ◌++◌, map, length, vec_items, sym, ap, ◌∙◌, append_assoc}
 use Rattle.std.proofs.lemmas.List.{length-map}
 use Rattle.grids.proofs.Refusing.{unless_ok}
-use Rattle.drafts.specs.Making.{sheet, bytes_refusal}
+use Rattle.drafts.specs.Making.{bytes_refusal}
 use Rattle.lines.specs.declared.Line.TheVariants.{Draft}
 use Rattle.records.specs.Marks.{draft as draft_mark, tile as tile_mark}
 use Rattle.records.specs.Entries.{entry_of}
-use Rattle.find_report.specs.Report.{entry_tile, entry_grid, tiles_lines, draft_lines}
+use Rattle.find_report.specs.Report.{entry_tile, entry_grid, tiles_lines}
 use Rattle.find_report.proofs.report_draft.Goals as goal
 
 pub returns : goal.returns
