@@ -68,7 +68,7 @@ module _ {C : Type 0} where
   abbrev pub has_place : Kind C → Grid C → Grid C → Bool
   has_place k g t = nat_lt 0 (length (places k g t))
 
-  -- `places` holds exactly the places of the tile, each once, in reading order, and `has-place?` tells whether there is one
+  -- `places` holds exactly the places of the tile, each once, in reading order, and `has_place` tells whether there is one
   pub record Exact (k : Kind C) (g : Grid C) (t : Tile C) : Type 0 where
     pub sound : AllByRecursion (λ q. Place g (laid t) q.row q.col) (places k g (laid t))
     pub complete : (r c : ℕ) → Place g (laid t) r c → Has (places k g (laid t)) (record { row = r; col = c })
