@@ -1,3 +1,4 @@
 pub mod Readings
+pub mod Ordered
 pub mod Lifts
 pub mod Threads

@@ -1,9 +1,10 @@
 ghost use Rattle.std.specs.Prelude.{◌≡◌, ℕ, ◌<◌};
 ghost use Rattle.grids.specs.Kinds.{Kind, Lawful};
 ghost use Rattle.cells.specs.Readings.{Reading, Readable, code_limit};
+ghost use Rattle.cells.specs.Ordered.{TestedBy};
 
 /// A kind of cells. Searching and the book are written once over this trait.
-pub trait Cell: Copy {
+pub trait Cell: Copy + Ord {
     /// The equality and the order of the kind.
     ghost kind: { Kind Self };
 
@@ -16,17 +17,7 @@ pub trait Cell: Copy {
     /// How many bytes one cell takes in a file.
     const BYTES: usize;
 
-    /// The same number, as a call that a contract can name.
-    fn width() -> usize
-        ensures { result ≡ reading.width };
-
-    /// Whether two cells are the same.
-    fn same(self, other: Self) -> bool
-        ensures { result ≡ kind.same self other };
-
-    /// Whether this cell is before the other.
-    fn before(self, other: Self) -> bool
-        ensures { result ≡ kind.before self other };
+    ghost BYTES: { ℕ };
 
     /// The code of the cell.
     fn code_of(self) -> u8
@@ -38,7 +29,11 @@ pub trait Cell: Copy {
 
     ghost lawful: { Lawful kind };
 
+    ghost tested: { TestedBy kind Self.eq Self.cmp };
+
     ghost small: { (x : Self) → code x < code_limit };
 
     ghost readable: { Readable reading };
+
+    ghost wide: { reading.width ≡ BYTES };
 }

@@ -5,7 +5,7 @@ ghost use Rattle.std.proofs.Common.{rules};
 use crate::cell::Cell;
 
 /// Whether the warp thread lies below or above the weft.
-#[derive(Clone, Copy, PartialEq, Eq, Debug, Default)]
+#[derive(Clone, Copy, PartialEq, Eq, PartialOrd, Ord, Debug, Default)]
 pub enum Lift {
     #[default]
     Sunk,
@@ -21,29 +21,17 @@ impl Cell for Lift {
 
     const BYTES: usize = 1;
 
+    ghost BYTES = { 1 };
+
     ghost lawful = { Prim.search rules };
+
+    ghost tested = { Prim.search rules };
 
     ghost small = { Prim.search rules };
 
     ghost readable = { Prim.search rules };
 
-    fn width() -> usize {
-        Self::BYTES
-    }
-
-    fn same(self, other: Lift) -> bool {
-        match (self, other) {
-            (Lift::Sunk, Lift::Sunk) | (Lift::Raised, Lift::Raised) => true,
-            _ => false,
-        }
-    }
-
-    fn before(self, other: Lift) -> bool {
-        match (self, other) {
-            (Lift::Sunk, Lift::Raised) => true,
-            _ => false,
-        }
-    }
+    ghost wide = { Prim.search rules };
 
     fn code_of(self) -> u8 {
         match self {
@@ -77,14 +65,14 @@ impl Lift {
     pub fn equals(self, other: Lift) -> bool
         ensures { result ≡ same_lift self other }
     {
-        self.same(other)
+        self == other
     }
 
     /// Whether this lift is before the other.
     pub fn precedes(self, other: Lift) -> bool
         ensures { result ≡ before_lift self other }
     {
-        self.before(other)
+        self < other
     }
 
     /// The code of the lift.

@@ -5,7 +5,7 @@ ghost use Rattle.std.proofs.Common.{rules};
 use crate::cell::Cell;
 
 /// A thread: a colour and a ply.
-#[derive(Clone, Copy, PartialEq, Eq, Debug, Default)]
+#[derive(Clone, Copy, PartialEq, Eq, PartialOrd, Ord, Debug, Default)]
 pub struct Thread {
     pub colour: u16,
     pub ply: u8,
@@ -20,27 +20,17 @@ impl Cell for Thread {
 
     const BYTES: usize = 3;
 
+    ghost BYTES = { 3 };
+
     ghost lawful = { Prim.search rules };
+
+    ghost tested = { Prim.search rules };
 
     ghost small = { Prim.search rules };
 
     ghost readable = { Prim.search rules };
 
-    fn width() -> usize {
-        Self::BYTES
-    }
-
-    fn same(self, other: Thread) -> bool {
-        self.colour == other.colour && self.ply == other.ply
-    }
-
-    fn before(self, other: Thread) -> bool {
-        if self.colour == other.colour {
-            self.ply < other.ply
-        } else {
-            self.colour < other.colour
-        }
-    }
+    ghost wide = { Prim.search rules };
 
     fn code_of(self) -> u8 {
         (self.colour % 64) as u8
@@ -70,14 +60,14 @@ impl Thread {
     pub fn equals(self, other: Thread) -> bool
         ensures { result ≡ same_thread self other }
     {
-        self.same(other)
+        self == other
     }
 
     /// Whether this thread is before the other.
     pub fn precedes(self, other: Thread) -> bool
         ensures { result ≡ before_thread self other }
     {
-        self.before(other)
+        self < other
     }
 
     /// The code of the thread.
