@@ -1,5 +1,5 @@
 -- What find answers, and what it leaves. Assumes nothing.
-use Rattle.std.specs.Prelude.{ℕ, ◌*◌, Bool, ◌&&◌, List, [], ◌∷◌, length, Option, Result, ◌==◌, nat_le}
+use Rattle.std.specs.Prelude.{ℕ, ◌*◌, Bool, ◌&&◌, List, [], ◌∷◌, ◌++◌, length, Option, Result, ◌==◌, nat_le}
 use Rattle.grids.specs.declared.Position.{Position}
 use Rattle.grids.specs.declared.Found.{Found}
 use Rattle.grids.specs.Kinds.{Kind}
@@ -9,6 +9,10 @@ use Rattle.grids.specs.Listed.{listed}
 use Rattle.grids.specs.Refusals.{first_failed, between, unless, kept_or}
 use Rattle.drafts.specs.Tallies.{raised}
 use Rattle.engine.specs.Rules.{Rule}
+
+-- what is checked of a work table of w words
+abbrev pub work_checks : ℕ → List (Bool × ℕ)
+work_checks w = (nat_le 12288 w, 8) ∷ []
 
 module _ {C : Type 0} where
   -- what is checked of a tile: its size, then its length
@@ -20,11 +24,7 @@ module _ {C : Type 0} where
 
   -- why find is refused: the tile's size, its length, then a work table of w words that is too short
   abbrev pub find_refusal : Tile C → ℕ → Option ℕ
-  find_refusal t w = first_failed
-      ((between 1 32 t.rows && between 1 32 t.cols, 1)
-      ∷ ((length t.cells == t.rows * t.cols), 2)
-      ∷ (nat_le 12288 w, 8)
-      ∷ [])
+  find_refusal t w = first_failed (tile_checks t ++ work_checks w)
 
   -- how many places t has in g, and how many looks the rule takes for them
   abbrev pub finding : Kind C → Rule C → Grid C → Grid C → Found

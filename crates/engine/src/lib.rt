@@ -2,40 +2,24 @@
 #![tactic(auto)]
 
 ghost use Rattle.std.specs.Prelude.{◌≡◌, ℕ, length, OnErr, slice_set};
-ghost use Rattle.grids.specs.Refusals.{numbered, numbers};
+ghost use Rattle.grids.specs.Refusals.{numbered};
 ghost use Rattle.engine.specs.Views.{viewed};
 ghost use Rattle.engine.specs.Rules.{Rule};
-ghost use Rattle.engine.specs.Finding.{find_refusal, find_answer, find_list, find_tally};
+ghost use Rattle.engine.specs.Finding.{find_answer, find_list, find_tally};
 
 mod checks;
 
 use cells::Cell;
-pub use checks::tile_refusal;
+pub use checks::{check_find, check_work};
 use drafts::Draft;
 use grids::{Found, Position, Refusal};
 
 /// A lent tile: its size, and its cells row after row.
-#[derive(Clone, Copy)]
+#[derive(Clone, Copy, PartialEq, Eq, PartialOrd, Ord)]
 pub struct TileView<'a, C> {
     pub rows: usize,
     pub cols: usize,
     pub cells: &'a [C],
-}
-
-/// Why finding the tile with a work table of so many words would be refused.
-pub fn find_refusal<C: Cell>(tile: &TileView<'_, C>, words: usize) -> Option<Refusal>
-    ensures { numbers result ≡ find_refusal (viewed tile.now) words }
-{
-    if tile.rows == 0 || tile.rows > 32 || tile.cols == 0 || tile.cols > 32 {
-        return Some(Refusal::TileSize);
-    }
-    if tile.cells.len() != tile.rows * tile.cols {
-        return Some(Refusal::TileLength);
-    }
-    if words < 12288 {
-        return Some(Refusal::ShortWork);
-    }
-    None
 }
 
 /// Writes a place into a list; past the end of the list nothing is written.

@@ -1,8 +1,9 @@
 //! The lowest layer: refusals, positions and answers, and the theory of grids, tiles and places.
 #![tactic(auto)]
 
-ghost use Rattle.std.specs.Prelude.{◌≡◌};
+ghost use Rattle.std.specs.Prelude.{◌≡◌, ◌&&◌};
 ghost use Rattle.grids.specs.Numbers.{number};
+ghost use Rattle.grids.specs.Refusals.{between};
 
 /// A row and a column, counted from 0.
 #[derive(Clone, Copy, PartialEq, Eq, Debug, Default)]
@@ -76,4 +77,11 @@ impl Refusal {
             Refusal::NoCell => 12,
         }
     }
+}
+
+/// Whether a size has 1 to `most` rows, and 1 to `most` columns.
+pub fn sized(rows: usize, cols: usize, most: usize) -> bool
+    ensures { result ≡ (between 1 most rows && between 1 most cols) }
+{
+    (1..=most).contains(&rows) && (1..=most).contains(&cols)
 }

@@ -13,7 +13,7 @@ use grids::Refusal;
 pub fn all_read<C: Cell>(count: usize, bytes: &[u8]) -> bool
     ensures { result ≡ is_some (cells_read C.Cell.reading count bytes.now) }
 {
-    let width = C::width();
+    let width = C::BYTES;
     let mut rest = bytes;
     for _ in 0..count {
         if rest.len() < width {
@@ -49,7 +49,7 @@ fn copy_cells<C: Cell>(count: usize, bytes: &[u8], cells: &mut [C])
     requires read { is_some (cells_read C.Cell.reading count bytes.now) ≡ true }
     ensures { cells.new ≡ listed (cells_of C.Cell.reading count bytes.now) cells.old }
 {
-    let width = C::width();
+    let width = C::BYTES;
     let mut rest = bytes;
     for i in 0..count {
         if rest.len() < width {

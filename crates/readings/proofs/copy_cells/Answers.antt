@@ -11,16 +11,16 @@ pub returns-then-rest-width : goal.returns-then-rest-width
 returns-then-rest-width g c =
     let k = g.C.Cell.reading in
     let y = copied_reads k _ _ _ _ c.loop-i.rest.now _ c.loop-i-test.true c.loop-i.invariant in
-    let n = none_short k g.met.C.Cell.readable c.loop-i.rest.now _ refl (omega (arith, c.if-rest-width.true, c.width-width.ensures)) in
+    let n = none_short k g.met.C.Cell.readable c.loop-i.rest.now _ refl (omega (arith, c.if-rest-width.true, (c.BYTES-width.ensures ∙ sym g.met.C.Cell.wide))) in
     absurd (both_ways _ n y)
 
 pub loop-i-preserved : goal.loop-i-preserved
 loop-i-preserved g c =
     let k = g.C.Cell.reading in
-    let r = read_part k c.width-width.result c.loop-i.rest.now c.split_at.result.0.now c.read.result c.width-width.ensures c.split_at.ensures.front c.read.ensures in
+    let r = read_part k c.BYTES-width.result c.loop-i.rest.now c.split_at.result.0.now c.read.result (c.BYTES-width.ensures ∙ sym g.met.C.Cell.wide) c.split_at.ensures.front c.read.ensures in
     let y = copied_reads k _ _ _ _ c.loop-i.rest.now _ c.loop-i-test.true c.loop-i.invariant in
     elim c.match-read.branch [
-      | in-Some w ↦ subst (Copied k _ _ _ _ _) (sym w.cells-is) (copied_more k _ _ _ _ c.width-width.result c.loop-i.rest.now c.split_at.result.1.now _ w.in-Some.x c.loop-i-test.true c.width-width.ensures c.split_at.ensures.back (r ∙ w.in-Some.is) c.loop-i.invariant)
+      | in-Some w ↦ subst (Copied k _ _ _ _ _) (sym w.cells-is) (copied_more k _ _ _ _ c.BYTES-width.result c.loop-i.rest.now c.split_at.result.1.now _ w.in-Some.x c.loop-i-test.true (c.BYTES-width.ensures ∙ sym g.met.C.Cell.wide) c.split_at.ensures.back (r ∙ w.in-Some.is) c.loop-i.invariant)
       | in_default w ↦ absurd (both_ways _ (ap is_some (r ∙ w.in_default.is)) y)
     ]
 
