@@ -1,2 +1,1 @@
 pub mod CellParts
-pub mod Accepted

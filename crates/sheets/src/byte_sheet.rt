@@ -1,33 +1,33 @@
-ghost use Rattle.std.specs.Prelude.{◌≡◌, ◌*◌, ◌^◌, ◌<◌, ◌≤◌, length};
+ghost use Rattle.std.specs.Prelude.{◌≡◌, ◌*◌, ◌^◌, ◌<◌, true, length, is_some};
+ghost use Rattle.grids.specs.Refusals.{unless, numbered_by};
+ghost use Rattle.readings.specs.CellLists.{cells_read, cells_of};
+ghost use Rattle.drafts.specs.Making.{bytes_refusal, sheet};
 ghost use Rattle.sheets.specs.Drawing.{Drawable, drawn_bytes};
 
 use cells::Cell;
-use drafts::{Draft, OverBytes};
-use grids::Refusal;
+use drafts::Draft;
+use grids::{Refusal, sized};
 use readings::all_read;
+use std::marker::PhantomData;
 
-/// A draft over lent file bytes, whose cells are read at each look.
-///
-/// No invariant can speak of the kind's reading, so the meaning is total: bytes that read as no
-/// cell, over which no sheet is made, stand for the corner's cell.
+/// A draft over lent file bytes that all read as cells; a cell is read at each look.
 #[derive(Drop)]
-pub struct ByteSheet<'a, C> {
+pub struct ByteSheet<'a, C: Cell> {
     bytes: &'a [u8],
     rows: usize,
     cols: usize,
-    width: usize,
-    corner: C,
     tally: u64,
+    kind: PhantomData<C>,
     ghost sized: { Drawable rows cols },
-    ghost narrow: { width ≤ 16 },
-    ghost whole: { length bytes.now ≡ rows * cols * width },
+    ghost whole: { length bytes.now ≡ rows * cols * C.Cell.reading.width },
+    ghost read: { is_some (cells_read C.Cell.reading (rows * cols) bytes.now) ≡ true },
     ghost fits: { tally < 2 ^ 64 },
 }
 
 impl<'a, C: Cell> Draft for ByteSheet<'a, C> {
     type Cell = C;
 
-    ghost shows = { λ s. drawn_bytes C.Cell.reading s.rows s.cols s.width s.bytes.now s.corner s.sized };
+    ghost shows = { λ s. drawn_bytes C.Cell.reading s.rows s.cols s.bytes.now s.sized s.read };
 
     ghost tally = { λ s. record { value = s.tally; fits = s.fits } };
 
@@ -41,28 +41,28 @@ impl<'a, C: Cell> Draft for ByteSheet<'a, C> {
 
     fn look(&mut self, row: usize, col: usize) -> Option<C> {
         if row < self.rows && col < self.cols {
-            let start = (row * self.cols + col) * self.width;
-            let cell = C::read(&self.bytes[start..start + self.width]);
+            let start = (row * self.cols + col) * C::BYTES;
             self.tally = self.tally.wrapping_add(1);
-            Some(cell.unwrap_or(self.corner))
+            C::read(&self.bytes[start..start + C::BYTES])
         } else {
             None
         }
     }
 }
 
-impl<'a, C: Cell> OverBytes<'a, C> for ByteSheet<'a, C> {
-    fn over(rows: usize, cols: usize, bytes: &'a [u8]) -> Result<ByteSheet<'a, C>, Refusal> {
-        if rows == 0 || rows > 2048 || cols == 0 || cols > 2048 {
+impl<'a, C: Cell> ByteSheet<'a, C> {
+    /// Makes a draft over lent file bytes, or refuses: size, length, then a cell whose bytes read as
+    /// none.
+    pub fn over(rows: usize, cols: usize, bytes: &'a [u8]) -> Result<ByteSheet<'a, C>, Refusal>
+        ensures shows { numbered_by (λ s. (⟦<ByteSheet<'a, C> as Draft>⟧.shows s).grid) result ≡ unless (bytes_refusal C.Cell.reading rows cols bytes.now) (sheet rows cols (cells_of C.Cell.reading (rows * cols) bytes.now)) }
+        ensures new { numbered_by (λ s. (⟦<ByteSheet<'a, C> as Draft>⟧.tally s).value) result ≡ unless (bytes_refusal C.Cell.reading rows cols bytes.now) 0 }
+    {
+        if !sized(rows, cols, 2048) {
             return Err(Refusal::DraftSize);
         }
-        let width = C::width();
-        if bytes.len() != rows * cols * width {
+        if bytes.len() != rows * cols * C::BYTES {
             return Err(Refusal::DraftLength);
         }
-        let Some(corner) = C::read(&bytes[0..width]) else {
-            return Err(Refusal::NoCell);
-        };
         if !all_read::<C>(rows * cols, bytes) {
             return Err(Refusal::NoCell);
         }
@@ -70,9 +70,8 @@ impl<'a, C: Cell> OverBytes<'a, C> for ByteSheet<'a, C> {
             bytes,
             rows,
             cols,
-            width,
-            corner,
             tally: 0,
+            kind: PhantomData,
         })
     }
 }

@@ -1,9 +1,11 @@
 ghost use Rattle.std.specs.Prelude.{◌≡◌, ◌*◌, ◌^◌, ◌<◌, length};
+ghost use Rattle.grids.specs.Refusals.{unless, numbered_by};
+ghost use Rattle.drafts.specs.Making.{sheet_refusal, sheet};
 ghost use Rattle.sheets.specs.Drawing.{Drawable, drawn_cells};
 
 use cells::Cell;
-use drafts::{Draft, OverCells};
-use grids::Refusal;
+use drafts::Draft;
+use grids::{Refusal, sized};
 
 /// A draft over lent cells, row after row.
 #[derive(Drop)]
@@ -35,16 +37,20 @@ impl<'a, C: Cell> Draft for CellSheet<'a, C> {
     fn look(&mut self, row: usize, col: usize) -> Option<C> {
         if row < self.rows && col < self.cols {
             self.tally = self.tally.wrapping_add(1);
-            Some(self.cells[row * self.cols + col])
+            self.cells.get(row * self.cols + col).copied()
         } else {
             None
         }
     }
 }
 
-impl<'a, C: Cell> OverCells<'a, C> for CellSheet<'a, C> {
-    fn over(rows: usize, cols: usize, cells: &'a [C]) -> Result<CellSheet<'a, C>, Refusal> {
-        if rows == 0 || rows > 2048 || cols == 0 || cols > 2048 {
+impl<'a, C: Cell> CellSheet<'a, C> {
+    /// Makes a draft over lent cells, or refuses: size, then length.
+    pub fn over(rows: usize, cols: usize, cells: &'a [C]) -> Result<CellSheet<'a, C>, Refusal>
+        ensures shows { numbered_by (λ s. (⟦<CellSheet<'a, C> as Draft>⟧.shows s).grid) result ≡ unless (sheet_refusal rows cols (length cells.now)) (sheet rows cols cells.now) }
+        ensures new { numbered_by (λ s. (⟦<CellSheet<'a, C> as Draft>⟧.tally s).value) result ≡ unless (sheet_refusal rows cols (length cells.now)) 0 }
+    {
+        if !sized(rows, cols, 2048) {
             return Err(Refusal::DraftSize);
         }
         if cells.len() != rows * cols {
