@@ -1,7 +1,7 @@
 -- A record's body, by the values that reading it meets.
-use Rattle.std.proofs.Common.{◌≡◌, ℕ, ◌+◌, ◌*◌, ◌≤◌, true, false, ◌&&◌, leb, List, length, take, drop, is_some, Some, None, sym, refl, ap, ◌∙◌, subst, arith}
+use Rattle.std.proofs.Common.{◌≡◌, ℕ, ◌+◌, ◌*◌, ◌≤◌, true, false, ◌&&◌, leb, List, length, take, drop, is_some, Some, None, sym, refl, ap, ◌∙◌, arith}
 use Rattle.std.proofs.lemmas.List.{length-drop, drop-drop}
-use Rattle.std.proofs.lemmas.Bool.{and_from, le-leb}
+use Rattle.std.proofs.lemmas.Bool.{le-leb}
 use Rattle.grids.specs.Refusals.{first_failed, between}
 use Rattle.cells.specs.Readings.{Reading}
 use Rattle.readings.specs.CellLists.{cells_read}
@@ -16,7 +16,7 @@ pub record Header {C : Type 0} (k : Reading C) (most : ℕ) (bs body : List ℕ)
   pub rows_is : rows ≡ rows_in bs
   pub cols_is : cols ≡ cols_in bs
   pub width_is : w ≡ k.width
-  pub sized : (1 ≤ rows) × (rows ≤ most) × (1 ≤ cols) × (cols ≤ most)
+  pub sized : (between 1 most rows && between 1 most cols) ≡ true
   pub whole : rows * cols * w ≤ length body
 
 module _ {C : Type 0} (k : Reading C) (most bad : ℕ) (bs body : List ℕ) (rows cols w : ℕ) (h : Header k most bs body rows cols w) where
@@ -30,13 +30,7 @@ module _ {C : Type 0} (k : Reading C) (most bad : ℕ) (bs body : List ℕ) (row
   header_ok = le-leb 4 (length bs) h.long
 
   size_ok : (between 1 most (rows_in bs) && between 1 most (cols_in bs)) ≡ true
-  size_ok =
-      let r = h.rows_is in
-      let c = h.cols_is in
-      let s = h.sized in
-      and_from (between 1 most (rows_in bs)) (between 1 most (cols_in bs))
-      (and_from (leb 1 (rows_in bs)) (leb (rows_in bs) most) (le-leb 1 (rows_in bs) (subst (λ n. 1 ≤ n) r s.0)) (le-leb (rows_in bs) most (subst (λ n. n ≤ most) r s.1)))
-      (and_from (leb 1 (cols_in bs)) (leb (cols_in bs) most) (le-leb 1 (cols_in bs) (subst (λ n. 1 ≤ n) c s.2)) (le-leb (cols_in bs) most (subst (λ n. n ≤ most) c s.3)))
+  size_ok = ap (λ n. between 1 most n && between 1 most (cols_in bs)) (sym h.rows_is) ∙ (ap (λ n. between 1 most rows && between 1 most n) (sym h.cols_is) ∙ h.sized)
 
   whole_ok : leb (4 + body_size k bs) (length bs) ≡ true
   whole_ok = le-leb (4 + body_size k bs) (length bs) (omega (arith, size_is, h.whole, ap length h.body_is, length-drop 4 bs, h.long))

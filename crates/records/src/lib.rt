@@ -9,7 +9,7 @@ ghost use Rattle.records.specs.Entries.{handed_body, handed, answered};
 ghost use Rattle.records.specs.Fronts.{mark_in, after_mark, body_checks, record_fault, parted, front, next_answer, handed_on, moved_to};
 
 use cells::Cell;
-use grids::Refusal;
+use grids::{Refusal, sized};
 use readings::all_read;
 
 /// The size of a draft or tile, and its cells as they stand in the file.
@@ -47,11 +47,11 @@ fn read_body<'a, C: Cell>(
     };
     let rows = u16::from_le_bytes([*row_low, *row_high]) as usize;
     let cols = u16::from_le_bytes([*col_low, *col_high]) as usize;
-    if rows == 0 || rows > most || cols == 0 || cols > most {
+    if !sized(rows, cols, most) {
         return Err(bad_size);
     }
     let count = rows * cols;
-    let size = count * C::width();
+    let size = count * C::BYTES;
     if body.len() < size {
         return Err(Refusal::CutShort);
     }

@@ -1,4 +1,4 @@
-use Rattle.std.proofs.Common.{◌-◌, length, take, drop, sym, ap, ◌∙◌, arith, rules}
+use Rattle.std.proofs.Common.{◌-◌, length, take, drop, sym, ap, ◌∙◌, rules}
 use Rattle.std.proofs.lemmas.List.{take_rest}
 use Rattle.grids.proofs.Refusing.{unless_none, unless_some}
 use Rattle.grids.specs.Numbers.{number}
@@ -10,13 +10,13 @@ pub returns-then-not-all_read : goal.returns-then-not-all_read
 returns-then-not-all_read g c =
     let k = g.C.Cell.reading in
     let bs = c.args.input.now in
-    let h : Header k c.args.most bs (take (length bs - 4) (drop 4 bs)) c.from_le_bytes-rows.result c.from_le_bytes-cols.result c.width.result = record {
+    let h : Header k c.args.most bs (take (length bs - 4) (drop 4 bs)) c.from_le_bytes-rows.result c.from_le_bytes-cols.result c.BYTES.result = record {
       long = search rules;
       body_is = take_rest bs 4;
       rows_is = c.from_le_bytes-rows.ensures;
       cols_is = c.from_le_bytes-cols.ensures;
-      width_is = c.width.ensures;
-      sized = (omega arith, omega arith, omega arith, omega arith);
+      width_is = (c.BYTES.ensures ∙ sym g.met.C.Cell.wide);
+      sized = sym c.if-not-sized.ensures;
       whole = c.if-body-size.false;
     } in
     λ m. unless_some _ _ _ (body_unread k c.args.most (number c.args.bad_size) bs _ _ _ _ h (sym c.if-not-all_read.ensures))
@@ -28,15 +28,15 @@ returns g c =
     let body = take (length bs - 4) (drop 4 bs) in
     let rows = c.from_le_bytes-rows.result in
     let cols = c.from_le_bytes-cols.result in
-    let h : Header k c.args.most bs body rows cols c.width.result = record {
+    let h : Header k c.args.most bs body rows cols c.BYTES.result = record {
       long = search rules;
       body_is = take_rest bs 4;
       rows_is = c.from_le_bytes-rows.ensures;
       cols_is = c.from_le_bytes-cols.ensures;
-      width_is = c.width.ensures;
-      sized = (omega arith, omega arith, omega arith, omega arith);
+      width_is = (c.BYTES.ensures ∙ sym g.met.C.Cell.wide);
+      sized = sym c.if-not-sized.ensures;
       whole = c.if-body-size.false;
     } in
-    λ m. unless_none _ _ _ (body_passes k c.args.most (number c.args.bad_size) bs body rows cols c.width.result h (sym c.if-not-all_read.ensures))
-    (ap (λ e. (e, c.split_at.result.1.now)) (entry_is k c.args.most 0 bs body rows cols c.width.result h m c.split_at.result.0.now c.split_at.ensures.front)
-    ∙ ap (λ ys. (entry_in k m bs, ys)) (rest_is k c.args.most 0 bs body rows cols c.width.result h c.split_at.result.1.now c.split_at.ensures.back))
+    λ m. unless_none _ _ _ (body_passes k c.args.most (number c.args.bad_size) bs body rows cols c.BYTES.result h (sym c.if-not-all_read.ensures))
+    (ap (λ e. (e, c.split_at.result.1.now)) (entry_is k c.args.most 0 bs body rows cols c.BYTES.result h m c.split_at.result.0.now c.split_at.ensures.front)
+    ∙ ap (λ ys. (entry_in k m bs, ys)) (rest_is k c.args.most 0 bs body rows cols c.BYTES.result h c.split_at.result.1.now c.split_at.ensures.back))
