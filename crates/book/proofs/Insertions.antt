@@ -1,5 +1,5 @@
 -- Where a tile goes in, and whether it is held already.
-use Rattle.std.proofs.Common.{◌≡◌, ℕ, suc, ◌+◌, ◌<◌, ◌≤◌, Bool, true, false, cond, not, eqb, List, [], ◌∷◌, length, get_or, take, drop, Some, sym, ap, ◌∙◌, subst, arith}
+use Rattle.std.proofs.Common.{◌≡◌, ℕ, suc, ◌+◌, ◌<◌, ◌≤◌, Bool, true, false, cond, not, eqb, List, [], ◌∷◌, length, get_or, take, drop, Some, None, sum_by, sym, ap, ◌∙◌, subst, arith}
 use Rattle.std.specs.List.{prefix_len, AllByRecursion, slice_get}
 use Rattle.std.proofs.lemmas.List.{take_all}
 use Rattle.std.proofs.lemmas.List.Sums.{sum_by_more, sum_by-take-le, prefix_len-drop_yes, prefix_len-drop_no, prefix_len-drop_all, prefix_len-le-length}
@@ -7,8 +7,13 @@ use Rattle.std.proofs.lemmas.Bool.{cond_both, eq-eqb, ne_eqb}
 use Rattle.grids.specs.Kinds.{Kind}
 use Rattle.grids.specs.Grids.{Tile}
 use Rattle.book_order.specs.Orders.{tiles}
-use Rattle.book.specs.Models.{no_tile}
-use Rattle.book.specs.Entering.{times_held, insertion_point, InsertionPoint}
+use Rattle.book.specs.declared.Book.{Book}
+use Rattle.book.specs.Table.{area}
+use Rattle.book.specs.Models.{sizes, held, no_tile, tile_area}
+use Rattle.book.specs.Entering.{times_held, insertion_point, enter_refusal, InsertionPoint}
+use Rattle.book.proofs.Cuts.{cells_cut}
+use Rattle.book.proofs.Tables.{tiles_counted}
+use Rattle.book.proofs.Accepting.{accepted}
 
 -- the leading ones pass the test, and the next does not
 leading_pass : {X : Type 0} (p : X → Bool) (xs : List X) → AllByRecursion (λ x. p x ≡ true) (take (prefix_len p xs) xs)
@@ -61,3 +66,10 @@ module _ {C : Type 0} (k : Kind C) (t : Tile C) (ts : List (Tile C)) where
       found_held b =
           let some : 1 ≤ times_held k t ts = omega (arith, times_more, ap (λ y. cond {A = ℕ} y 1 0) b, sum_by-take-le (λ v. cond ((tiles k).same v t) 1 0) ts (n + 1)) in
           ap not (sym (ne_eqb (times_held k t ts) 0 (omega arith)))
+
+-- what a tile that is not refused finds in the table and the store
+pub taken_in : {C : Type 0} (k : Kind C) (b : Book) (cs : List C) (t : Tile C) (n : ℕ) → enter_refusal k (held b cs) t ≡ None → n ≡ insertion_point k t (held b cs).tiles → (n ≤ b.count) × (b.count < 32) × (length t.cells ≡ tile_area t) × (sum_by area (sizes b) + tile_area t ≤ length cs)
+taken_in k b cs t n none e =
+    let a = accepted k (held b cs) t none in
+    let counted = tiles_counted b cs 0 in
+    (omega (arith, e, (insertion_point_is k t (held b cs).tiles).few, counted), omega (arith, a.1, counted), a.0.whole, omega (arith, a.2, cells_cut (sizes b) cs))
