@@ -65,23 +65,15 @@ impl<'b, 's, C: Cell> HeldTiles<'b, 's, C> {
     pub(crate) fn holds(&self, tile: &TileView<'_, C>) -> bool
         ensures { result ≡ not (times_held C.Cell.kind (viewed tile.now) (held self.now.book.now self.now.store.now).tiles == 0) }
     {
-        for n in 0..self.book.count {
-            if tile_same(&self.get(n).view, tile) {
-                return true;
-            }
-        }
-        false
+        (0..self.book.count).any(|n| tile_same(&self.get(n).view, tile))
     }
 
     // The number that the tile would get.
     pub(crate) fn insertion_point(&self, tile: &TileView<'_, C>) -> usize
         ensures { result ≡ insertion_point C.Cell.kind (viewed tile.now) (held self.now.book.now self.now.store.now).tiles }
     {
-        for n in 0..self.book.count {
-            if !tile_before(&self.get(n).view, tile) {
-                return n;
-            }
-        }
-        self.book.count
+        (0..self.book.count)
+            .position(|n| !tile_before(&self.get(n).view, tile))
+            .unwrap_or(self.book.count)
     }
 }

@@ -1,27 +1,17 @@
-use Rattle.std.proofs.Common.{arith}
+use Rattle.std.proofs.Common.{rules, get_or, refl, tests}
+use Rattle.std.proofs.lemmas.Iterator.{YieldsList-from_range}
+use Rattle.std.proofs.lemmas.Iterator.Search.{any_from_yields_List}
 use Rattle.engine.specs.Views.{viewed}
-use Rattle.book.specs.Models.{held}
+use Rattle.book_order.specs.Orders.{tiles}
+use Rattle.book.specs.Models.{held, no_tile}
 use Rattle.book.proofs.Tables.{tiles_counted}
-use Rattle.book.proofs.Insertions.{not_held, found_held, none_held}
+use Rattle.book.proofs.Insertions.{any_held}
 use Rattle.book.proofs.held_tiles.HeldTiles.holds.Goals as goal
-
-pub returns-then-tile_same : goal.returns-then-tile_same
-returns-then-tile_same g c =
-    let b = c.args.self.now.book.now in
-    let cs = c.args.self.now.store.now in
-    let n = c.loop-n.n in
-    found_held g.C.Cell.kind (viewed c.args.tile.now) (held b cs).tiles n (viewed c.get.result.view) (omega (arith, tiles_counted b cs n)) c.get.ensures c.if-tile_same.ensures.answer
-
-pub loop-n-preserved : goal.loop-n-preserved
-loop-n-preserved g c =
-    let b = c.args.self.now.book.now in
-    let cs = c.args.self.now.store.now in
-    let n = c.loop-n.n in
-    not_held g.C.Cell.kind (viewed c.args.tile.now) (held b cs).tiles n (viewed c.get.result.view) (omega (arith, tiles_counted b cs n)) c.get.ensures c.if-tile_same.ensures.answer c.loop-n.invariant
 
 pub returns : goal.returns
 returns g c =
     let b = c.args.self.now.book.now in
     let cs = c.args.self.now.store.now in
-    let n = c.loop-n.n in
-    none_held g.C.Cell.kind (viewed c.args.tile.now) (held b cs).tiles n (omega (arith, tiles_counted b cs n)) c.loop-n.invariant
+    let t = viewed c.args.tile.now in
+    any_held g.C.Cell.kind t (held b cs).tiles b.count (tiles_counted b cs 0) c.any.result
+    (any_from_yields_List (λ n. (tiles g.C.Cell.kind).same (get_or (held b cs).tiles n no_tile) t) _ _ c.any.result c.any.ensures.ran (YieldsList-from_range 0 b.count b.count refl (search rules)) (λ x y q k. search (rules, tests)))
