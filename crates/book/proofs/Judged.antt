@@ -18,8 +18,8 @@ use Rattle.engine.specs.Finding.{finding}
 use Rattle.book.specs.declared.Book.{Book}
 use Rattle.book.specs.declared.TableEntry.{TableEntry}
 use Rattle.book.specs.declared.Verdict.{Verdict}
-use Rattle.book.specs.Table.{stopped, size_of, area, one_more}
-use Rattle.book.specs.Models.{sizes, stop_counts, entries_held, no_tile, cut, held, is_trimmed}
+use Rattle.book.specs.Table.{stopped, size_of, one_more}
+use Rattle.book.specs.Models.{sizes, stop_counts, entries_held, no_tile, cut, held, Stored, is_trimmed}
 use Rattle.book.specs.Judging.{verdict, stops_after, judged}
 use Rattle.book.specs.Progress.{Tried}
 use Rattle.book.proofs.Tables.{entry_at, told_at, tiles_counted, part_tile, part_valid}
@@ -151,7 +151,7 @@ tried_same {C} k rule g h n cs b d e v w x y p q t =
     subst P p (subst Q q t)
 
 -- of a book whose cells are all in the store, every place that is listed is one, and none is missing
-pub all_exact : {C : Type 0} (k : Kind C) (laws : Lawful k) (g : Grid C) (b : Book) (cs : List C) → sum_by area (sizes b) ≤ length cs → AllByRecursion (Exact k g) (held b cs).tiles
+pub all_exact : {C : Type 0} (k : Kind C) (laws : Lawful k) (g : Grid C) (b : Book) (cs : List C) → Stored (held b cs) → AllByRecursion (Exact k g) (held b cs).tiles
 all_exact k laws g b cs stored =
     All-from_get_or (Exact k g) (held b cs).tiles no_tile (λ n h.
     let l : n < b.count = omega (arith, h, tiles_counted b cs n) in

@@ -1,17 +1,15 @@
 //! Entering a tile.
-ghost use Rattle.std.specs.Prelude.{◌≡◌, ◌+◌, ◌-◌, ◌<◌, ◌≤◌, false, not, ◌++◌, length, take, drop, IfOk, sum_by, OnErr, ◌==◌};
+ghost use Rattle.std.specs.Prelude.{◌≡◌, ◌+◌, ◌-◌, ◌<◌, ◌≤◌, false, ◌++◌, length, take, drop, IfOk, OnErr};
 ghost use Rattle.std.specs.List.{insert};
-ghost use Rattle.grids.specs.Grids.{Valid};
-ghost use Rattle.grids.specs.Refusals.{numbered, numbers};
+ghost use Rattle.grids.specs.Refusals.{numbered};
 ghost use Rattle.engine.specs.Views.{viewed};
-ghost use Rattle.book.specs.Table.{Sized, area};
-ghost use Rattle.book.specs.Models.{entries_held, sizes, is_trimmed, held, tile_area};
-ghost use Rattle.book.specs.Entering.{times_held, insertion_point, enter_refusal, entered, Enters, InsertionPoint};
+ghost use Rattle.book.specs.Table.{Sized};
+ghost use Rattle.book.specs.Models.{entries_held, is_trimmed, held};
+ghost use Rattle.book.specs.Entering.{insertion_point, enter_answer, enter_refusal, entered, Enters, InsertionPoint};
 
 use crate::{Book, TableEntry};
-use book_order::{tile_before, tile_same};
 use cells::Cell;
-use engine::{TileView, tile_refusal};
+use engine::TileView;
 use grids::Refusal;
 
 // Writes items into a list; those from there up to `total` move up.
@@ -37,67 +35,32 @@ impl Book {
         ensures place { IfOk result (λ n. InsertionPoint C.Cell.kind (viewed tile.now) (held self.old store.old).tiles n) }
         ensures untouched { OnErr result ((self.new ≡ self.old) × (store.new ≡ store.old)) }
     {
-        if let Some(refusal) = self.enter_refusal(store, tile) {
-            return Err(refusal);
-        }
-        Ok(self.put_in(store, tile))
+        let number = self.number_for(store, tile)?;
+        self.put_in(store, tile, number);
+        Ok(number)
     }
 
-    // Why a tile would not be entered.
-    fn enter_refusal<C: Cell>(&self, store: &[C], tile: &TileView<'_, C>) -> Option<Refusal>
-        ensures { numbers result ≡ enter_refusal C.Cell.kind (held self.now store.now) (viewed tile.now) }
+    // The number that a tile gets when it is entered.
+    fn number_for<C: Cell>(&self, store: &[C], tile: &TileView<'_, C>) -> Result<usize, Refusal>
+        ensures { numbered result ≡ enter_answer C.Cell.kind (held self.now store.now) (viewed tile.now) }
     {
-        if let Some(refusal) = tile_refusal(tile) {
-            return Some(refusal);
-        }
+        tile.check()?;
         if self.count == 32 {
-            return Some(Refusal::BookFull);
+            return Err(Refusal::BookFull);
         }
-        if store.len() < self.cells_held() + tile.cells.len() {
-            return Some(Refusal::ShortStore);
+        let tiles = self.tiles_in(store, tile.cells.len())?;
+        if tiles.holds(tile) {
+            return Err(Refusal::TileHeld);
         }
-        if self.holds(store, tile) {
-            return Some(Refusal::TileHeld);
-        }
-        None
-    }
-
-    // Whether the book holds the tile already.
-    fn holds<C: Cell>(&self, store: &[C], tile: &TileView<'_, C>) -> bool
-        requires { sum_by area (sizes self.now) ≤ length store.now }
-        ensures { result ≡ not (times_held C.Cell.kind (viewed tile.now) (held self.now store.now).tiles == 0) }
-    {
-        for n in 0..self.count {
-            if tile_same(&self.view(store, n), tile) {
-                return true;
-            }
-        }
-        false
-    }
-
-    // The number that a tile gets.
-    fn insertion_point<C: Cell>(&self, store: &[C], tile: &TileView<'_, C>) -> usize
-        requires { sum_by area (sizes self.now) ≤ length store.now }
-        ensures number { result ≡ insertion_point C.Cell.kind (viewed tile.now) (held self.now store.now).tiles }
-        ensures few { result ≤ self.now.count }
-    {
-        for n in 0..self.count {
-            if !tile_before(&self.view(store, n), tile) {
-                return n;
-            }
-        }
-        self.count
+        Ok(tiles.insertion_point(tile))
     }
 
     // Puts an accepted tile into table and store.
-    fn put_in<C: Cell>(&mut self, store: &mut [C], tile: &TileView<'_, C>) -> usize
-        requires few { self.old.count < 32 }
-        requires valid { Valid (viewed tile.now) }
-        requires room { sum_by area (sizes self.old) + tile_area (viewed tile.now) ≤ length store.old }
-        ensures number { result ≡ insertion_point C.Cell.kind (viewed tile.now) (held self.old store.old).tiles }
-        ensures state { held self.new store.new ≡ entered C.Cell.kind (held self.old store.old) (viewed tile.now) }
+    fn put_in<C: Cell>(&mut self, store: &mut [C], tile: &TileView<'_, C>, number: usize)
+        requires accepted { enter_refusal C.Cell.kind (held self.old store.old) (viewed tile.now) ≡ None }
+        requires number { number ≡ insertion_point C.Cell.kind (viewed tile.now) (held self.old store.old).tiles }
+        ensures { held self.new store.new ≡ entered C.Cell.kind (held self.old store.old) (viewed tile.now) }
     {
-        let number = self.insertion_point(store, tile);
         insert(store, self.start(number), self.cells_held(), tile.cells);
         self.insert_entry(
             number,
@@ -107,7 +70,6 @@ impl Book {
                 stops: 0,
             },
         );
-        number
     }
 
     // Puts an entry into the table; the book is no longer trimmed.

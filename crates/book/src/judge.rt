@@ -1,22 +1,23 @@
 //! Judging a draft.
-ghost use Rattle.std.specs.Prelude.{◌≡◌, ◌^◌, ◌<◌, ◌≤◌, length, sum_by, OnErr, OnOk, slice_index_or, slice_set};
+ghost use Rattle.std.specs.Prelude.{◌≡◌, ◌^◌, ◌<◌, ◌≤◌, length, OnErr, OnOk, slice_index_or, slice_set};
 ghost use Rattle.std.specs.List.{AllByRecursion};
-ghost use Rattle.grids.specs.Grids.{Valid, laid};
+ghost use Rattle.grids.specs.Grids.{laid};
 ghost use Rattle.grids.specs.Places.{Exact};
-ghost use Rattle.grids.specs.Refusals.{numbered, numbers};
+ghost use Rattle.grids.specs.Refusals.{numbered, unless};
 ghost use Rattle.drafts.specs.Tallies.{raised};
 ghost use Rattle.engine.specs.Views.{viewed};
 ghost use Rattle.engine.specs.Finding.{finding};
-ghost use Rattle.book.specs.Table.{no_entry, stopped, area};
-ghost use Rattle.book.specs.Models.{sizes, held, no_tile};
+ghost use Rattle.book.specs.Table.{no_entry, stopped};
+ghost use Rattle.book.specs.Models.{held, Stored, no_tile};
 ghost use Rattle.book.specs.Judging.{judge_refusal, verdict, judged, Judges, judge_tally};
 ghost use Rattle.book.specs.Progress.{Tried};
 
+use crate::held_tiles::HeldTiles;
 use crate::{Book, TableEntry, Verdict};
 use cells::Cell;
 use drafts::Draft;
-use engine::{Engine, TileView};
-use grids::{Found, Position, Refusal};
+use engine::{Engine, ValidTile, check_work};
+use grids::{Found, Refusal};
 
 impl TableEntry {
     // One stop more; 65,535 stays.
@@ -31,18 +32,16 @@ impl TableEntry {
 fn find_tile<C: Cell, E: Engine<C>, D: Draft<Cell = C>>(
     engine: &E,
     draft: &mut D,
-    tile: &TileView<'_, C>,
+    tile: &ValidTile<'_, C>,
     work: &mut [u32],
 ) -> Found
-    requires valid { Valid (viewed tile.now) }
-    requires room { 12288 ≤ length work.old }
-    ensures answer { result ≡ finding C.Cell.kind E.Engine.rule (D.Draft.shows draft.old).grid (laid (viewed tile.now)) }
+    requires { 12288 ≤ length work.old }
+    ensures answer { result ≡ finding C.Cell.kind E.Engine.rule (D.Draft.shows draft.old).grid (laid (viewed tile.now.view)) }
     ensures few { result.looks ≤ 2 ^ 33 }
     ensures same { (D.Draft.shows draft.new).grid ≡ (D.Draft.shows draft.old).grid }
     ensures counts { (D.Draft.tally draft.new).value ≡ raised (D.Draft.tally draft.old).value result.looks }
 {
-    let mut none: [Position; 0] = [];
-    let Ok(found) = engine.find(draft, tile, work, &mut none) else {
+    let Ok(found) = engine.find(draft, &tile.view, work, &mut []) else {
         unreachable()
     };
     found
@@ -63,23 +62,16 @@ impl Book {
         ensures counts { (D.Draft.tally draft.new).value ≡ judge_tally E.Engine.rule (D.Draft.shows draft.old).grid (length work.old) (held self.old store.now) (D.Draft.tally draft.old).value }
         ensures untouched { OnErr result ((self.new ≡ self.old) × (draft.new ≡ draft.old) × (work.new ≡ work.old)) }
     {
-        if let Some(refusal) = self.judge_refusal(store, work.len()) {
-            return Err(refusal);
-        }
+        self.check_judge(store, work.len())?;
         Ok(self.judge_all(store, engine, draft, work))
     }
 
-    // Why a judgement with a work table of so many words would be refused.
-    fn judge_refusal<C>(&self, store: &[C], words: usize) -> Option<Refusal>
-        ensures { numbers result ≡ judge_refusal (held self.now store.now) words }
+    // Refuses a store without all cells held, and then a work table of so many words.
+    fn check_judge<C>(&self, store: &[C], words: usize) -> Result<(), Refusal>
+        ensures { numbered result ≡ unless (judge_refusal (held self.now store.now) words) tt }
     {
-        if store.len() < self.cells_held() {
-            return Some(Refusal::ShortStore);
-        }
-        if words < 12288 {
-            return Some(Refusal::ShortWork);
-        }
-        None
+        self.tiles_in(store, 0)?;
+        check_work(words)
     }
 
     // Finds every tile, in book order.
@@ -90,7 +82,7 @@ impl Book {
         draft: &mut D,
         work: &mut [u32],
     ) -> Verdict
-        requires stored { sum_by area (sizes self.old) ≤ length store.now }
+        requires stored { Stored (held self.old store.now) }
         requires room { 12288 ≤ length work.old }
         ensures answer { result ≡ verdict C.Cell.kind E.Engine.rule (D.Draft.shows draft.old).grid (held self.old store.now).tiles }
         ensures state { held self.new store.now ≡ judged C.Cell.kind (D.Draft.shows draft.old).grid (held self.old store.now) }
@@ -115,13 +107,14 @@ impl Book {
         before: Verdict,
     ) -> Verdict
         requires within { number < self.old.count }
-        requires stored { sum_by area (sizes self.old) ≤ length store.now }
+        requires stored { Stored (held self.old store.now) }
         requires room { 12288 ≤ length work.old }
         requires few { (before.found < 2 ^ 32) × (before.looks < 2 ^ 48) }
         ensures tried { Tried C.Cell.kind E.Engine.rule (D.Draft.shows draft.old).grid number (slice_index_or (held self.old store.now).tiles number no_tile) self.old self.new before result (D.Draft.tally draft.old).value (D.Draft.tally draft.new).value }
         ensures same { (D.Draft.shows draft.new).grid ≡ (D.Draft.shows draft.old).grid }
     {
-        let Found { places, looks } = find_tile(engine, draft, &self.view(store, number), work);
+        let tile = HeldTiles { book: self, store }.get(number);
+        let Found { places, looks } = find_tile(engine, draft, &tile, work);
         let mut verdict = before;
         verdict.looks += looks;
         if places > 0 {

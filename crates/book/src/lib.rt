@@ -5,11 +5,12 @@ ghost use Rattle.std.specs.Prelude.{◌≡◌, ℕ, ◌<◌, ◌≤◌, length, 
 ghost use Rattle.book.specs.Table.{Sized, no_entry};
 
 mod enter;
+mod held_tiles;
 mod judge;
 mod table;
 
 /// What a book's table keeps of a tile: its size, and how often it stopped a draft.
-#[derive(Clone, Copy)]
+#[derive(Clone, Copy, Default)]
 pub struct TableEntry {
     rows: u8,
     cols: u8,
@@ -27,6 +28,7 @@ pub struct Verdict {
 /// lends to each call.
 #[derive(Drop)]
 pub struct Book {
+    // An array and a count, since the book allocates nothing.
     entries: [TableEntry; 32],
     count: usize,
     trimmed: bool,

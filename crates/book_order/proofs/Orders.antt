@@ -1,129 +1,98 @@
--- Lists and tiles of a lawful kind are lawful kinds.
-use Rattle.std.proofs.Common.{◌≡◌, ℕ, Bool, true, false, cond, eqb, ltb, ◌⊎◌, List, [], ◌∷◌, sym, refl, ◌∙◌, inl, inr, ⊎_elim, arith}
-use Rattle.std.proofs.lemmas.Bool.{both_ways, cases_Bool, cond-true, cond_both, and_parts, and_from, eqb-true, eq-eqb, ltb-true, ltb-false, lt-ltb, le-ltb}
+-- Tiles of a lawful kind are told apart and put in order, as the comparisons that the language derives do.
+use Rattle.std.proofs.Common.{◌≡◌, ℕ, Bool, true, false, cond, ◌&&◌, eqb, ltb, List, [], ◌∷◌, Some, Option, Decides, sym, refl, ap, ◌∙◌, arith}
+use Rattle.std.proofs.lemmas.Bool.{both_ways}
+use Rattle.std.proofs.lemmas.Bool.Decides.{Decides-eqb, Decides-and, Decides-like, nat_tests}
+use Rattle.std.proofs.lemmas.Cmp.{nat_cmp_total, lists_total, on_total, then_total, tied_itself}
+use Rattle.std.specs.declared.cmp.Ordering.{Ordering}
+use Rattle.std.specs.declared.cmp.Ordering.TheVariants.{Less, Equal, Greater}
+use Rattle.std.specs.Cmp.{IsTotalOrder, Agrees, both_tied, unsigned_ties, Some-then}
+use Rattle.std.specs.Cmp.Lexicographic.{pointwise, slice_cmp, slice_partial_cmp, pointwise_decides, lists_agrees, lists_ties}
+use Rattle.std.specs.Ordering.{is_lt, is_eq, eq_by_cmp, is_some_and, nat_cmp, on, then_cmp, ordering_then, ordering_reverse, partial_ordering_then}
 use Rattle.grids.specs.Kinds.{Kind, Lawful}
 use Rattle.grids.specs.Grids.{Tile}
-use Rattle.book_order.specs.Orders.{same_lists, before_lists, tiles}
+use Rattle.cells.specs.Ordered.{TestedBy}
+use Rattle.book_order.specs.Orders.{before_lists, tiles}
 
-module _ {A : Type 0} {k : Kind A} (laws : Lawful k) where
-  pub same_from : (x y : A) → x ≡ y → k.same x y ≡ true
-  same_from x y e = rw e (laws.same_itself y)
+-- one comparison, and then another
+then_lt : (o r : Ordering) → is_lt (ordering_then o r) ≡ cond (is_eq o) (is_lt r) (is_lt o)
+then_lt Less r = refl
+then_lt Equal r = refl
+then_lt Greater r = refl
 
-  pub before_unequal : (x y : A) → k.before x y ≡ true → x ≡ y → ⊥
-  before_unequal x y b e = both_ways (k.before y y) (laws.before_itself y) (rw e at b)
+neither : (o r : Ordering) → o ≡ ordering_reverse r → is_lt o ≡ false → is_lt r ≡ false → is_eq o ≡ true
+neither Less r e h i = absurd (both_ways _ h refl)
+neither Equal r e h i = refl
+neither Greater Less e h i = absurd (both_ways _ i refl)
+neither Greater Equal e h i = ap is_eq e
+neither Greater Greater e h i = absurd (both_ways _ refl (ap is_lt e))
 
-  -- a test by k first, and then, where k says the same, by the rest r
-  lex_rest : (x y : A) (r : Bool) → x ≡ y → cond (k.same x y) r (k.before x y) ≡ r
-  lex_rest x y r e = cond-true (k.same x y) r (k.before x y) (same_from x y e)
+less : (o : Ordering) → is_lt o ≡ true → o ≡ Less
+less Less h = refl
+less Equal h = absurd (both_ways _ refl h)
+less Greater h = absurd (both_ways _ refl h)
 
-  pub lex_equal : (x y : A) (r : Bool) → x ≡ y → r ≡ true → cond (k.same x y) r (k.before x y) ≡ true
-  lex_equal x y r e h = lex_rest x y r e ∙ h
+numbers_before : (m n : ℕ) → is_lt (nat_cmp m n) ≡ ltb m n
+numbers_before m n = grind (arith, nat_tests)
 
-  pub lex_before : (x y : A) (r : Bool) → k.before x y ≡ true → cond (k.same x y) r (k.before x y) ≡ true
-  lex_before x y r b =
-      cond_both (k.same x y) r (k.before x y) (λ v. v ≡ true) (λ s. absurd (before_unequal x y b (laws.same_equal x y s))) (λ _. b)
-
-  pub lex_cases : (x y : A) (r : Bool) → cond (k.same x y) r (k.before x y) ≡ true → ((x ≡ y) × (r ≡ true)) ⊎ (k.before x y ≡ true)
-  lex_cases x y r h =
-      cond_both (k.same x y) r (k.before x y) (λ v. v ≡ true → ((x ≡ y) × (r ≡ true)) ⊎ (k.before x y ≡ true))
-      (λ s t. inl (laws.same_equal x y s, t))
-      (λ _ b. inr b)
-      h
-
-  lex_not : (x y : A) (r : Bool) → cond (k.same x y) r (k.before x y) ≡ false → k.before x y ≡ false
-  lex_not x y r h = ⊎_elim (λ b. absurd (both_ways _ h (lex_before x y r b))) (λ f. f) (cases_Bool (k.before x y))
-
-  pub lex_itself : (x : A) (r : Bool) → r ≡ false → cond (k.same x x) r (k.before x x) ≡ false
-  lex_itself x r h = lex_rest x x r refl ∙ h
-
-  pub lex_trans : (x y z : A) (p q r : Bool) → (p ≡ true → q ≡ true → r ≡ true) → cond (k.same x y) p (k.before x y) ≡ true → cond (k.same y z) q (k.before y z) ≡ true → cond (k.same x z) r (k.before x z) ≡ true
-  lex_trans x y z p q r rest h i = go (lex_cases x y p h) (lex_cases y z q i)
-    where
-      go : ((x ≡ y) × (p ≡ true)) ⊎ (k.before x y ≡ true) → ((y ≡ z) × (q ≡ true)) ⊎ (k.before y z ≡ true) → cond (k.same x z) r (k.before x z) ≡ true
-      go (inl a) (inl b) = lex_equal x z r (a.0 ∙ b.0) (rest a.1 b.1)
-      go (inl a) (inr b) = lex_before x z r (rw a.0 b)
-      go (inr a) (inl b) = lex_before x z r (rw b.0 at a)
-      go (inr a) (inr b) = lex_before x z r (laws.before_trans x y z a b)
-
-  pub lex_total : (x y : A) (p q : Bool) → cond (k.same x y) p (k.before x y) ≡ false → cond (k.same y x) q (k.before y x) ≡ false → (x ≡ y) × (p ≡ false) × (q ≡ false)
-  lex_total x y p q h i =
-      let e = laws.before_total x y (lex_not x y p h) (lex_not y x q i) in
-      (e, sym (lex_rest x y p e) ∙ h, sym (lex_rest y x q (sym e)) ∙ i)
-
-  same_lists_equal : (xs ys : List A) → same_lists k xs ys ≡ true → xs ≡ ys
-  same_lists_equal [] [] h = refl
-  same_lists_equal [] (y ∷ ys) h = absurd (both_ways _ refl h)
-  same_lists_equal (x ∷ xs) [] h = absurd (both_ways _ refl h)
-  same_lists_equal (x ∷ xs) (y ∷ ys) h =
-      let p = and_parts (k.same x y) (same_lists k xs ys) h in
-      let e = laws.same_equal x y p.0 in
-      let f = same_lists_equal xs ys p.1 in
-      λ i. e i ∷ f i
-
-  same_lists_itself : (xs : List A) → same_lists k xs xs ≡ true
-  same_lists_itself [] = refl
-  same_lists_itself (x ∷ xs) = and_from _ _ (laws.same_itself x) (same_lists_itself xs)
-
-  before_lists_itself : (xs : List A) → before_lists k xs xs ≡ false
-  before_lists_itself [] = refl
-  before_lists_itself (x ∷ xs) = lex_itself x _ (before_lists_itself xs)
-
-  before_lists_trans : (xs ys zs : List A) → before_lists k xs ys ≡ true → before_lists k ys zs ≡ true → before_lists k xs zs ≡ true
-  before_lists_trans [] [] zs h i = i
-  before_lists_trans [] (y ∷ ys) [] h i = i
-  before_lists_trans [] (y ∷ ys) (z ∷ zs) h i = refl
-  before_lists_trans (x ∷ xs) [] [] h i = h
-  before_lists_trans (x ∷ xs) [] (z ∷ zs) h i = absurd (both_ways _ refl h)
-  before_lists_trans (x ∷ xs) (y ∷ ys) [] h i = i
-  before_lists_trans (x ∷ xs) (y ∷ ys) (z ∷ zs) h i = lex_trans x y z _ _ _ (before_lists_trans xs ys zs) h i
-
-  before_lists_total : (xs ys : List A) → before_lists k xs ys ≡ false → before_lists k ys xs ≡ false → xs ≡ ys
-  before_lists_total [] [] h i = refl
-  before_lists_total [] (y ∷ ys) h i = absurd (both_ways _ h refl)
-  before_lists_total (x ∷ xs) [] h i = absurd (both_ways _ i refl)
-  before_lists_total (x ∷ xs) (y ∷ ys) h i =
-      let t = lex_total x y _ _ h i in
-      let e = t.0 in
-      let f = before_lists_total xs ys t.1 t.2 in
-      λ j. e j ∷ f j
-
-  pub lists_lawful : Lawful (record { same = same_lists k; before = before_lists k })
-  lists_lawful = record {
-    same_equal = same_lists_equal;
-    same_itself = same_lists_itself;
-    before_itself = before_lists_itself;
-    before_trans = before_lists_trans;
-    before_total = before_lists_total;
-  }
-
--- numbers by size
-abbrev pub numbers : Kind ℕ
-numbers = record { same = eqb; before = ltb }
-
-pub numbers_lawful : Lawful numbers
-numbers_lawful = record {
-  same_equal = eqb-true;
-  same_itself = λ x. eq-eqb x x refl;
-  before_itself = λ x. le-ltb x x (omega arith);
-  before_trans = λ x y z h i. lt-ltb x z (omega (arith, ltb-true x y h, ltb-true y z i));
-  before_total = λ x y h i. omega (arith, ltb-false x y h, ltb-false y x i);
+-- a kind whose tests are those of a total order, and tell equal things, is lawful
+pub lawful_by : {A : Type 0} (k : Kind A) (R : A → A → Ordering) → TestedBy k (eq_by_cmp R) R → IsTotalOrder R → ((x y : A) → Decides (k.same x y) (x ≡ y)) → Lawful k
+lawful_by k R tested total decides = record {
+  same_equal = λ x y. (decides x y).0;
+  same_itself = λ x. (decides x x).1 refl;
+  before_itself = λ x. sym (tested.before x x) ∙ ap is_lt (tied_itself total x);
+  before_trans = λ x y z h i. sym (tested.before x z) ∙ ap is_lt (total.trans x y z (less (R x y) (tested.before x y ∙ h)) (less (R y z) (tested.before y z ∙ i)));
+  before_total = λ x y h i. (decides x y).0 (sym (tested.same x y) ∙ neither (R x y) (R y x) (total.antisymm x y) (tested.before x y ∙ h) (tested.before y x ∙ i));
 }
 
-pub tile_equal : {C : Type 0} (s t : Tile C) → s.rows ≡ t.rows → s.cols ≡ t.cols → s.cells ≡ t.cells → s ≡ t
-tile_equal s t p q r = λ i. record { rows = p i; cols = q i; cells = r i }
+-- `==` and `<` of tiles as the language derives them
+abbrev pub derived_same : {A : Type 0} → (A → A → Bool) → Tile A → Tile A → Bool
+derived_same E s t = eqb s.rows t.rows && (eqb s.cols t.cols && pointwise E s.cells t.cells)
 
-module _ {C : Type 0} {k : Kind C} (laws : Lawful k) where
-  pub tiles_lawful : Lawful (tiles k)
-  tiles_lawful = record {
-    same_equal = λ s t h.
-        let p = and_parts _ _ h in
-        let q = and_parts _ _ p.1 in
-        tile_equal s t (eqb-true _ _ p.0) (eqb-true _ _ q.0) ((lists_lawful laws).same_equal _ _ q.1);
-    same_itself = λ s. and_from _ _ (numbers_lawful.same_itself s.rows) (and_from _ _ (numbers_lawful.same_itself s.cols) ((lists_lawful laws).same_itself s.cells));
-    before_itself = λ s. lex_itself numbers_lawful s.rows _ (lex_itself numbers_lawful s.cols _ ((lists_lawful laws).before_itself s.cells));
-    before_trans = λ s t u. lex_trans numbers_lawful s.rows t.rows u.rows _ _ _ (lex_trans numbers_lawful s.cols t.cols u.cols _ _ _ ((lists_lawful laws).before_trans s.cells t.cells u.cells));
-    before_total = λ s t h i.
-        let p = lex_total numbers_lawful s.rows t.rows _ _ h i in
-        let q = lex_total numbers_lawful s.cols t.cols _ _ p.1 p.2 in
-        tile_equal s t p.0 q.0 ((lists_lawful laws).before_total s.cells t.cells q.1 q.2);
-  }
+abbrev pub derived_before : {A : Type 0} → (A → A → Option Ordering) → Tile A → Tile A → Bool
+derived_before P s t =
+    is_some_and is_lt (partial_ordering_then (Some (nat_cmp s.rows t.rows)) (partial_ordering_then (Some (nat_cmp s.cols t.cols)) (slice_partial_cmp P s.cells t.cells)))
+
+-- tiles by rows, then by columns, then by their cells
+abbrev pub tile_cmp : {A : Type 0} → (A → A → Ordering) → Tile A → Tile A → Ordering
+tile_cmp R = then_cmp (on (λ t. t.rows) nat_cmp) (then_cmp (on (λ t. t.cols) nat_cmp) (on (λ t. t.cells) (slice_cmp R)))
+
+module _ {A : Type 0} {k : Kind A} (laws : Lawful k) where
+  pub same_decides : (x y : A) → Decides (k.same x y) (x ≡ y)
+  same_decides x y = (laws.same_equal x y, λ e. rw e (laws.same_itself y))
+
+  pub tiles_decide : (s t : Tile A) → Decides ((tiles k).same s t) (s ≡ t)
+  tiles_decide s t =
+      Decides-like ((tiles k).same s t)
+      (λ e. let p = e.0 in let q = e.1.0 in let r = e.1.1 in λ i. record { rows = p i; cols = q i; cells = r i })
+      (λ e. (ap (λ u. u.rows) e, (ap (λ u. u.cols) e, ap (λ u. u.cells) e)))
+      (Decides-and _ _ (Decides-eqb s.rows t.rows) (Decides-and _ _ (Decides-eqb s.cols t.cols) (pointwise_decides same_decides s.cells t.cells)))
+
+  module _ {E : A → A → Bool} {R : A → A → Ordering} (tested : TestedBy k E R) (ties : (x y : A) → E x y ≡ eq_by_cmp R x y) where
+    tied_same : (x y : A) → eq_by_cmp R x y ≡ k.same x y
+    tied_same x y = sym (ties x y) ∙ tested.same x y
+
+    lists_before : (xs ys : List A) → is_lt (slice_cmp R xs ys) ≡ before_lists k xs ys
+    lists_before [] [] = refl
+    lists_before [] (y ∷ ys) = refl
+    lists_before (x ∷ xs) [] = refl
+    lists_before (x ∷ xs) (y ∷ ys) = then_lt (R x y) (slice_cmp R xs ys) ∙ λ i. cond (tied_same x y i) (lists_before xs ys i) (tested.before x y i)
+
+    tiles_tested : TestedBy (tiles k) (eq_by_cmp (tile_cmp R)) (tile_cmp R)
+    tiles_tested = record {
+      same = λ s t. sym (both_tied _ _ _ _ (unsigned_ties s.rows t.rows) (both_tied _ _ _ _ (unsigned_ties s.cols t.cols) (lists_ties R (λ x y. sym (tied_same x y)) s.cells t.cells)));
+      before = λ s t. then_lt _ _ ∙ λ i. cond (sym (unsigned_ties s.rows t.rows) i) ((then_lt _ _ ∙ λ j. cond (sym (unsigned_ties s.cols t.cols) j) (lists_before s.cells t.cells j) (numbers_before s.cols t.cols j)) i) (numbers_before s.rows t.rows i);
+    }
+
+    pub tiles_lawful : IsTotalOrder R → Lawful (tiles k)
+    tiles_lawful total =
+        let order = then_total (on_total (λ (t : Tile A). t.rows) nat_cmp_total) (then_total (on_total (λ (t : Tile A). t.cols) nat_cmp_total) (on_total (λ (t : Tile A). t.cells) (lists_total total))) in
+        lawful_by (tiles k) (tile_cmp R) tiles_tested order tiles_decide
+
+    -- what the derived tests of tiles answer
+    pub answers_same : (s t : Tile A) (b : Bool) → b ≡ derived_same E s t → b ≡ (tiles k).same s t
+    answers_same s t b h = h ∙ λ i. eqb s.rows t.rows && (eqb s.cols t.cols && pointwise (λ x y. tested.same x y i) s.cells t.cells)
+
+    pub answers_before : {P : A → A → Option Ordering} → Agrees P R → (s t : Tile A) (b : Bool) → b ≡ derived_before P s t → b ≡ (tiles k).before s t
+    answers_before {P} agrees s t b h =
+        let cells = lists_agrees agrees s.cells t.cells in
+        h ∙ (ap (is_some_and is_lt) (ap (partial_ordering_then (Some (nat_cmp s.rows t.rows))) (ap (partial_ordering_then (Some (nat_cmp s.cols t.cols))) cells ∙ Some-then _ _) ∙ Some-then _ _) ∙ tiles_tested.before s t)

@@ -1,71 +1,52 @@
 -- The tests of book order say what the words do.
-use Rattle.std.proofs.Common.{◌≡◌, ℕ, zero, suc, ◌*◌, Bool, true, cond, List, [], ◌∷◌, length, take, Some, Decides, sym, refl, ◌∙◌, subst, inl, inr, ⊎_elim, arith}
+use Rattle.std.proofs.Common.{◌≡◌, ℕ, zero, suc, Bool, true, false, cond, ◌⊎◌, List, [], ◌∷◌, length, take, Some, Decides, refl, subst, inl, inr, ⊎_elim, arith}
 use Rattle.std.specs.List.{slice_get}
-use Rattle.std.proofs.lemmas.Bool.{both_ways, cond_both, ltb-true, lt-ltb}
+use Rattle.std.proofs.lemmas.Bool.{both_ways}
+use Rattle.std.proofs.lemmas.Bool.Decides.{Decides-eqb, Decides-ltb, Decides-like}
 use Rattle.grids.specs.Kinds.{Kind, Lawful}
 use Rattle.grids.specs.Grids.{Tile, Valid}
 use Rattle.book_order.specs.Orders.{before_lists, tiles}
 use Rattle.book_order.specs.Words.{EarlierCell, Before}
-use Rattle.book_order.proofs.Orders.{lex_equal, lex_before, lex_cases, numbers, numbers_lawful, tiles_lawful}
+use Rattle.book_order.proofs.Orders.{same_decides}
+
+-- a test of what comes first, and then, where that is equal, of the rest
+first_then : (s b r : Bool) {E L P : Type 0} → Decides s E → Decides b L → (E → L → ⊥) → (E → Decides r P) → Decides (cond s r b) (L ⊎ (E × P))
+first_then true b r same before apart rest = (λ h. inr (same.0 refl, (rest (same.0 refl)).0 h), λ z. ⊎_elim (λ l. absurd (apart (same.0 refl) l)) (λ q. (rest q.0).1 q.1) z)
+first_then false b r same before apart rest = (λ h. inl (before.0 h), λ z. ⊎_elim (λ l. before.1 l) (λ q. absurd (both_ways _ refl (same.1 q.0))) z)
 
 module _ {C : Type 0} {k : Kind C} (laws : Lawful k) where
-  earlier_from : (xs ys : List C) → length xs ≡ length ys → before_lists k xs ys ≡ true → EarlierCell k xs ys
-  earlier_from [] [] l h = absurd (both_ways _ refl h)
-  earlier_from [] (y ∷ ys) l h = absurd (omega arith)
-  earlier_from (x ∷ xs) [] l h = absurd (omega arith)
-  earlier_from (x ∷ xs) (y ∷ ys) l h =
-      cond_both (k.same x y) (before_lists k xs ys) (k.before x y) (λ v. v ≡ true → EarlierCell k (x ∷ xs) (y ∷ ys))
-      (λ s t.
-      let e = laws.same_equal x y s in
-      let r = earlier_from xs ys (omega arith) t in
-      let a = r.agree in
-      record { number = suc r.number; x = r.x; y = r.y; agree = λ i. e i ∷ a i; of_xs = r.of_xs; of_ys = r.of_ys; earlier = r.earlier })
-      (λ _ b. record { number = 0; x = x; y = y; agree = refl; of_xs = refl; of_ys = refl; earlier = b })
-      h
+  apart : (x y : C) → x ≡ y → k.before x y ≡ true → ⊥
+  apart x y e h = both_ways _ (laws.before_itself y) (subst (λ u. k.before u y ≡ true) e h)
 
-  earlier_to : (xs ys : List C) (n : ℕ) (x y : C) → take n xs ≡ take n ys → slice_get xs n ≡ Some x → slice_get ys n ≡ Some y → k.before x y ≡ true → before_lists k xs ys ≡ true
-  earlier_to [] ys n x y a p q b = let z : ◌≡◌ {A = ℕ} 0 1 = cc in absurd (omega arith)
-  earlier_to (v ∷ xs) [] n x y a p q b = let z : ◌≡◌ {A = ℕ} 0 1 = cc in absurd (omega arith)
-  earlier_to (v ∷ xs) (w ∷ ys) zero x y a p q b =
-      let e : x ≡ v = cc in
-      let f : y ≡ w = cc in
-      lex_before laws v w (before_lists k xs ys) (subst (λ u. k.before v u ≡ true) f (subst (λ u. k.before u y ≡ true) e b))
-  earlier_to (v ∷ xs) (w ∷ ys) (suc n) x y a p q b =
-      let e : v ≡ w = cc in
+  earlier_is : (x y : C) (xs ys : List C) → (k.before x y ≡ true) ⊎ ((x ≡ y) × EarlierCell k xs ys) → EarlierCell k (x ∷ xs) (y ∷ ys)
+  earlier_is x y xs ys (inl b) = record { number = 0; x = x; y = y; agree = refl; of_xs = refl; of_ys = refl; earlier = b }
+  earlier_is x y xs ys (inr q) =
+      let e = q.0 in
+      let r = q.1 in
+      let a = r.agree in
+      record { number = suc r.number; x = r.x; y = r.y; agree = λ i. e i ∷ a i; of_xs = r.of_xs; of_ys = r.of_ys; earlier = r.earlier }
+
+  earlier_at : (x y : C) (xs ys : List C) (n : ℕ) (u v : C) → take n (x ∷ xs) ≡ take n (y ∷ ys) → slice_get (x ∷ xs) n ≡ Some u → slice_get (y ∷ ys) n ≡ Some v → k.before u v ≡ true → (k.before x y ≡ true) ⊎ ((x ≡ y) × EarlierCell k xs ys)
+  earlier_at x y xs ys zero u v a p q b =
+      let e : u ≡ x = cc in
+      let f : v ≡ y = cc in
+      inl (subst (λ w. k.before x w ≡ true) f (subst (λ w. k.before w v ≡ true) e b))
+  earlier_at x y xs ys (suc n) u v a p q b =
+      let e : x ≡ y = cc in
       let t : take n xs ≡ take n ys = cc in
-      lex_equal laws v w (before_lists k xs ys) e (earlier_to xs ys n x y t p q b)
+      inr (e, record { number = n; x = u; y = v; agree = t; of_xs = p; of_ys = q; earlier = b })
+
+  earlier : (xs ys : List C) → length xs ≡ length ys → Decides (before_lists k xs ys) (EarlierCell k xs ys)
+  earlier [] [] l = (λ h. absurd (both_ways _ refl h), λ e. let p = e.of_xs in let z : ◌≡◌ {A = ℕ} 0 1 = cc in absurd (omega arith))
+  earlier [] (y ∷ ys) l = absurd (omega arith)
+  earlier (x ∷ xs) [] l = absurd (omega arith)
+  earlier (x ∷ xs) (y ∷ ys) l =
+      Decides-like _ (earlier_is x y xs ys) (λ e. earlier_at x y xs ys e.number e.x e.y e.agree e.of_xs e.of_ys e.earlier)
+      (first_then _ _ _ (same_decides laws x y) (λ h. h, λ h. h) (apart x y) (λ _. earlier xs ys (omega arith)))
 
   -- valid tiles are before one another just where the words say so
-  before_words : (s t : Tile C) → Valid s → Valid t → Decides ((tiles k).before s t) (Before k s t)
+  pub before_words : (s t : Tile C) → Valid s → Valid t → Decides ((tiles k).before s t) (Before k s t)
   before_words s t v w =
-      let cells : Bool = before_lists k s.cells t.cells in
-      let cols : Bool = cond (numbers.same s.cols t.cols) cells (numbers.before s.cols t.cols) in (
-        λ h. ⊎_elim
-            (λ e. inr (
-              e.0,
-              ⊎_elim
-                  (λ f. inr (f.0, earlier_from s.cells t.cells (v.whole ∙ (sized e.0 f.0 ∙ sym w.whole)) f.1))
-                  (λ b. inl (ltb-true s.cols t.cols b))
-                  (lex_cases numbers_lawful s.cols t.cols cells e.1),
-            ))
-            (λ b. inl (ltb-true s.rows t.rows b))
-            (lex_cases numbers_lawful s.rows t.rows cols h),
-        ⊎_elim
-            (λ l. lex_before numbers_lawful s.rows t.rows cols (lt-ltb s.rows t.rows l))
-            (λ e. lex_equal numbers_lawful s.rows t.rows cols e.0
-            (⊎_elim
-            (λ l. lex_before numbers_lawful s.cols t.cols cells (lt-ltb s.cols t.cols l))
-            (λ f. lex_equal numbers_lawful s.cols t.cols cells f.0 (let q = f.1 in earlier_to s.cells t.cells q.number q.x q.y q.agree q.of_xs q.of_ys q.earlier))
-            e.1)),
-      )
-    where
-      sized : s.rows ≡ t.rows → s.cols ≡ t.cols → s.rows * s.cols ≡ t.rows * t.cols
-      sized p q = λ i. p i * q i
-
-  -- the same of an answer of the test
-  pub before_told : (s t : Tile C) (y : Bool) → y ≡ (tiles k).before s t → Valid s → Valid t → Decides y (Before k s t)
-  before_told s t y e v w = subst (λ b. Decides b (Before k s t)) (sym e) (before_words s t v w)
-
-  -- the test for the same tile tells equal tiles
-  pub same_told : (s t : Tile C) (y : Bool) → y ≡ (tiles k).same s t → Decides y (s ≡ t)
-  same_told s t y h = (λ e. (tiles_lawful laws).same_equal s t (sym h ∙ e), λ e. h ∙ subst (λ u. (tiles k).same s u ≡ true) e ((tiles_lawful laws).same_itself s))
+      first_then _ _ _ (Decides-eqb s.rows t.rows) (Decides-ltb s.rows t.rows) (λ e h. omega arith)
+      (λ e. first_then _ _ _ (Decides-eqb s.cols t.cols) (Decides-ltb s.cols t.cols) (λ f h. omega arith)
+      (λ f. earlier s.cells t.cells (cc (v.whole, w.whole))))

@@ -1,14 +1,12 @@
 -- Book order as tests. Assumes nothing.
 use Rattle.std.specs.Prelude.{Bool, true, false, cond, ◌&&◌, List, [], ◌∷◌, ◌==◌, nat_lt}
+use Rattle.std.specs.Cmp.Lexicographic.{pointwise}
 use Rattle.grids.specs.Kinds.{Kind}
 use Rattle.grids.specs.Grids.{Tile}
 
--- the lists are the same, one by one
+-- the lists are as long, and the same one by one
 abbrev pub same_lists : {A : Type 0} → Kind A → List A → List A → Bool
-same_lists k [] [] = true
-same_lists k [] (y ∷ ys) = false
-same_lists k (x ∷ xs) [] = false
-same_lists k (x ∷ xs) (y ∷ ys) = k.same x y && same_lists k xs ys
+same_lists k xs ys = pointwise k.same xs ys
 
 -- the first list is before the second at the first two that differ; the end of a list is before all
 abbrev pub before_lists : {A : Type 0} → Kind A → List A → List A → Bool

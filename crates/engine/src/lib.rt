@@ -10,7 +10,7 @@ ghost use Rattle.engine.specs.Finding.{find_answer, find_list, find_tally};
 mod checks;
 
 use cells::Cell;
-pub use checks::{check_find, check_work};
+pub use checks::{ValidTile, check_find, check_work};
 use drafts::Draft;
 use grids::{Found, Position, Refusal};
 

@@ -1,29 +1,16 @@
-use Rattle.std.proofs.Common.{◌≡◌, ltb, sym, refl, ◌∙◌, arith}
-use Rattle.std.proofs.lemmas.Bool.{eq-eqb, ne_eqb}
+use Rattle.std.proofs.Common.{◌≡◌}
+use Rattle.std.proofs.lemmas.Bool.Decides.{Decides-at}
 use Rattle.engine.specs.Views.{viewed}
 use Rattle.book_order.specs.Orders.{tiles}
-use Rattle.book_order.proofs.Orders.{tiles_lawful}
-use Rattle.book_order.proofs.Words.{before_told}
+use Rattle.book_order.proofs.Orders.{tiles_lawful, answers_before}
+use Rattle.book_order.proofs.Words.{before_words}
 use Rattle.book_order.proofs.tile_before.Goals as goal
-
-pub returns-then-a-b : goal.returns-then-a-b
-returns-then-a-b g c =
-    let s = viewed c.args.a.now in
-    let t = viewed c.args.b.now in
-    let e : ltb s.rows t.rows ≡ (tiles g.C.Cell.kind).before s t = rw (ne_eqb s.rows t.rows c.if-a-b.true) refl in
-    record { answer = e; words = before_told g.met.C.Cell.lawful s t _ e; order = tiles_lawful g.met.C.Cell.lawful }
-
-pub returns-then-a-b-2 : goal.returns-then-a-b-2
-returns-then-a-b-2 g c =
-    let s = viewed c.args.a.now in
-    let t = viewed c.args.b.now in
-    let e : ltb s.cols t.cols ≡ (tiles g.C.Cell.kind).before s t = rw (eq-eqb s.rows t.rows (omega arith), ne_eqb s.cols t.cols (omega arith)) refl in
-    record { answer = e; words = before_told g.met.C.Cell.lawful s t _ e; order = tiles_lawful g.met.C.Cell.lawful }
 
 pub returns : goal.returns
 returns g c =
     let s = viewed c.args.a.now in
     let t = viewed c.args.b.now in
-    let e : c.cells_before.result ≡ (tiles g.C.Cell.kind).before s t =
-    c.cells_before.ensures ∙ sym (rw (eq-eqb s.rows t.rows (omega arith), eq-eqb s.cols t.cols (omega arith)) refl) in
-    record { answer = e; words = before_told g.met.C.Cell.lawful s t _ e; order = tiles_lawful g.met.C.Cell.lawful }
+    let cell = g.met.C.Cell in
+    let order = g.met.C.Ord in
+    let e : c.lt.result ≡ (tiles g.C.Cell.kind).before s t = answers_before cell.lawful cell.tested order.matches_eq order.matches_partial_cmp s t c.lt.result c.lt.ensures in
+    record { answer = e; words = λ v w. Decides-at _ _ e (before_words cell.lawful s t v w); order = tiles_lawful cell.lawful cell.tested order.matches_eq order.total }

@@ -1,6 +1,6 @@
-use Rattle.std.proofs.Common.{◌≤◌, length, sum_by, sym, refl, ap, ◌∙◌, arith}
-use Rattle.book.specs.Table.{area, size_of}
-use Rattle.book.specs.Models.{held}
+use Rattle.std.proofs.Common.{◌≤◌, length, sym, refl, ap, subst, ◌∙◌, arith}
+use Rattle.book.specs.Table.{size_of}
+use Rattle.book.specs.Models.{held, cut, cells_held}
 use Rattle.book.proofs.Tables.{length_told, tiles_counted}
 use Rattle.book.proofs.Judged.{upto_none, upto_more, upto_all, held-judged, tried_same}
 use Rattle.book.proofs.Book.judge_all.Goals as goal
@@ -17,7 +17,7 @@ judge_tile-sum-requires g c =
     let u = c.loop-n.invariant.1 in
     record {
       within = omega (arith, c.loop-n-test.true, ap length u.same_sizes, length_told b size_of, length_told d size_of);
-      stored = omega (arith, c.requires.stored, ap (sum_by area) u.same_sizes);
+      stored = subst (λ ss. cells_held (cut ss c.args.store.now) ≤ length c.args.store.now) (sym u.same_sizes) c.requires.stored;
       room = omega (arith, c.loop-n.auto.work, c.requires.room);
       few = (omega (arith, u.few_found, b.few), omega (arith, u.few_looks, b.few));
     }

@@ -15,7 +15,7 @@ returns-then-places-gt0 g c =
     let f = c.find_tile-places.ensures in
     let r = c.raise.ensures in
     record {
-      tried = tried_found k rule grid n (get_or (held b c.args.store.now).tiles n no_tile) b c.args.before c.find_tile-places.result _ _ (f.answer ∙ ap (λ t. finding k rule grid (laid t)) c.view.ensures.tile) f.few f.counts c.raise.new.self c.requires.within c.if-places-gt0.true r.entries r.count r.trimmed;
+      tried = tried_found k rule grid n (get_or (held b c.args.store.now).tiles n no_tile) b c.args.before c.find_tile-places.result _ _ (f.answer ∙ ap (λ t. finding k rule grid (laid t)) c.get-tile.ensures) f.few f.counts c.raise.new.self c.requires.within c.if-places-gt0.true r.entries r.count r.trimmed;
       same = f.same;
     }
 
@@ -28,6 +28,6 @@ returns-else-places-gt0 g c =
     let n = c.args.number in
     let f = c.find_tile-places.ensures in
     record {
-      tried = tried_not k rule grid n (get_or (held b c.args.store.now).tiles n no_tile) b c.args.before c.find_tile-places.result _ _ (f.answer ∙ ap (λ t. finding k rule grid (laid t)) c.view.ensures.tile) f.few f.counts (omega arith);
+      tried = tried_not k rule grid n (get_or (held b c.args.store.now).tiles n no_tile) b c.args.before c.find_tile-places.result _ _ (f.answer ∙ ap (λ t. finding k rule grid (laid t)) c.get-tile.ensures) f.few f.counts (omega arith);
       same = f.same;
     }

@@ -1,12 +1,15 @@
-use Rattle.std.proofs.Common.{get_or, arith}
-use Rattle.book.specs.Table.{no_entry}
-use Rattle.book.proofs.Tables.{area_few, start_more}
+use Rattle.std.proofs.Common.{rules, ◌≡◌, ◌<◌, ◌^◌, take, sum_by, ◌∙◌}
+use Rattle.std.proofs.iter.runs.Made.{chains}
+use Rattle.book.specs.Table.{size_of, area}
+use Rattle.book.proofs.Tables.{table_few, table_start}
 use Rattle.book.proofs.Book.start.Goals as goal
 
-pub loop-n-preserved : goal.loop-n-preserved
-loop-n-preserved c =
-    let b = c.args.self.now in
-    let n = c.loop-n.n in
-    let more = start_more b n (omega arith) in
-    let few = area_few (get_or b.entries n no_entry) (b.sized n (omega arith)) in
-    (omega (arith, more, c.cells-cells.ensures, c.loop-n.invariant.0), omega (arith, few, c.cells-cells.ensures, c.loop-n.invariant.1))
+pub sum-requires-clause-fits : goal.sum-requires-clause-fits
+sum-requires-clause-fits c =
+    let h : sum_by (λ e. area (size_of e)) (take c.args.number c.args.self.now.entries) < 2 ^ 64 = table_few c.args.self.now c.args.number c.requires in
+    search (rules, chains)
+
+pub returns : goal.returns
+returns c =
+    let h : c.sum.result ≡ sum_by (λ e. area (size_of e)) (take c.args.number c.args.self.now.entries) = search (rules, chains) in
+    h ∙ table_start c.args.self.now c.args.number c.requires

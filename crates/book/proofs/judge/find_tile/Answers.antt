@@ -12,7 +12,7 @@ pub returns : goal.returns
 returns g c =
     let rule = g.E.Engine.rule in
     let drawn = g.D.Draft.shows c.args.draft.now in
-    let t = viewed c.args.tile.now in
+    let t = viewed c.args.tile.now.view in
     let f = c.in-Ok.found in
     let u = (g.D.Draft.tally c.args.draft.now).value in
     let o = find_refusal t (length c.args.work.now) in
@@ -20,7 +20,7 @@ returns g c =
     let looks : rule.looks drawn.grid (laid t) ≡ f.looks = sym (ap (λ x. x.looks) a.1) in
     record {
       answer = a.1;
-      few = omega (arith, looks, looks_few rule drawn.grid t drawn.drawn c.requires.valid);
+      few = omega (arith, looks, looks_few rule drawn.grid t drawn.drawn c.args.tile.now.valid);
       same = c.find.ensures.same;
       counts = c.find.ensures.counts ∙ (ap (λ x. kept_or x u (raised u (rule.looks drawn.grid (laid t)))) a.0 ∙ ap (raised u) looks);
     }
