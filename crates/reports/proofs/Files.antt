@@ -1,19 +1,18 @@
 -- The lines of a file, one record after another.
-use Rattle.std.proofs.Common.{◌≡◌, ℕ, zero, suc, ◌+◌, ◌<◌, ◌≤◌, ltb, List, [], ◌∷◌, ◌++◌, length, drop, Some, None, Ok, Err, Option, Result, sym, refl, ap, ◌∙◌, subst, append_assoc, arith}
+use Rattle.std.proofs.Common.{◌≡◌, ℕ, zero, suc, ◌+◌, ◌<◌, List, [], ◌∷◌, ◌++◌, length, drop, Some, None, Ok, Err, Option, Result, sym, refl, ap, ◌∙◌, append_assoc, arith}
 use Rattle.std.specs.Option.{option_map}
 use Rattle.std.proofs.lemmas.List.{append-nil, length-drop}
-use Rattle.std.proofs.lemmas.Bool.{cond-true, cond-false, lt-ltb, le-ltb}
 use Rattle.cells.specs.Readings.{Reading}
 use Rattle.records.specs.declared.Record.{Record}
 use Rattle.records.specs.Entries.{Entry, FaultAt, entry}
 use Rattle.records.specs.Fronts.{Front, end, faulty, whole, front, next_answer, handed_on, moved_to}
-use Rattle.records.specs.Files.{filed, file_from, file}
+use Rattle.records.specs.Files.{filed, file_from}
 use Rattle.records.proofs.Fronting.{Took, took}
 use Rattle.lines.specs.declared.Line.{Line}
-use Rattle.lines.specs.declared.Line.TheVariants.{Fault, TooLong}
+use Rattle.lines.specs.declared.Line.TheVariants.{Fault}
 use Rattle.reports.specs.Reports.{fault_lines, entries_lines, file_lines, report}
 
--- a reader's answer that was found to be p
+-- a reader's answer, where what it found is p
 pub answer_is : {o p : Option Record} {a : Result (Option Entry) FaultAt} → o ≡ p → Ok (option_map entry o) ≡ a → Ok (option_map entry p) ≡ a
 answer_is e h = ap (λ u. Ok (option_map entry u)) (sym e) ∙ h
 
@@ -56,25 +55,18 @@ module _ {C : Type 0} (r : Reading C) where
 pub record Reached {C S : Type 0} (says : S → Entry → List Line) (next : S → Entry → S) (r : Reading C) (start : S) (bs : List ℕ) (s : S) (at : ℕ) (rest : List ℕ) (lines : List Line) : Type 0 where
   pub most : ℕ
   pub enough : length rest < most
-  pub left : file_lines says next start (file r bs) ≡ lines ++ file_lines says next s (file_from r most at rest)
+  pub left : report says next r start bs ≡ lines ++ file_lines says next s (file_from r most at rest)
 
 module _ {C S : Type 0} {says : S → Entry → List Line} {next : S → Entry → S} {r : Reading C} {start : S} {bs : List ℕ} {s : S} {at : ℕ} {rest : List ℕ} {lines : List Line} where
-  -- nothing has been read yet
-  pub reached_none : s ≡ start → at ≡ 0 → rest ≡ bs → lines ≡ [] → Reached says next r start bs s at rest lines
-  reached_none t a e l =
-      let R = Reached says next r start bs in
-      let none : R start 0 bs [] = record { most = suc (length bs); enough = omega arith; left = refl } in
-      subst (R s at rest) (sym l) (subst (λ u. R s at u []) (sym e) (subst (λ u. R s u bs []) (sym a) (subst (λ u. R u 0 bs []) (sym t) none)))
-
   module _ (c : Reached says next r start bs s at rest lines) where
     -- the reader answered that nothing is left
-    pub reached_end : Ok None ≡ next_answer at (front r rest) → lines ≡ file_lines says next start (file r bs)
+    pub reached_end : Ok None ≡ next_answer at (front r rest) → lines ≡ report says next r start bs
     reached_end h =
         let o = opens r c.most at rest end c.enough (at_end at (front r rest) h) in
         sym (c.left ∙ (ap (λ u. lines ++ file_lines says next s u) o.2 ∙ append-nil lines))
 
     -- it answered a fault
-    pub reached_fault : {new : List Line} {x : FaultAt} → Err x ≡ next_answer at (front r rest) → new ≡ lines ++ (Fault x.number x.at ∷ []) → new ≡ file_lines says next start (file r bs)
+    pub reached_fault : {new : List Line} {x : FaultAt} → Err x ≡ next_answer at (front r rest) → new ≡ lines ++ (Fault x.number x.at ∷ []) → new ≡ report says next r start bs
     reached_fault {new} {x} h e =
         let f = at_fault at (front r rest) x h in
         let o = opens r c.most at rest (faulty f.0) c.enough f.1 in
@@ -92,19 +84,10 @@ module _ {C S : Type 0} {says : S → Entry → List Line} {next : S → Entry �
         let F = file_from r n (at + m) (drop m rest) in
         let body = entries_lines says next (next s e) F.entries in
         let tail = fault_lines F.fault in
-        let z : file_lines says next start (file r bs) ≡ new ++ file_lines says next (next s e) F =
+        let z : report says next r start bs ≡ new ++ file_lines says next (next s e) F =
         c.left ∙ (ap (λ u. lines ++ file_lines says next s u) o.2 ∙ (ap (λ u. lines ++ u) (append_assoc (says s e) body tail) ∙ (sym (append_assoc lines (says s e) (body ++ tail)) ∙ ap (λ u. u ++ (body ++ tail)) (sym l)))) in
         record {
           most = n;
           enough = omega (arith, c.enough, o.1, ap length y, length-drop m rest, f.2.some, f.2.within);
           left = z ∙ (ap (λ u. new ++ file_lines says next u F) (sym v) ∙ (ap (λ u. new ++ file_lines says next t (file_from r n u (drop m rest))) (sym x) ∙ ap (λ u. new ++ file_lines says next t (file_from r n to u)) (sym y)));
         }
-
-module _ {C S : Type 0} (says : S → Entry → List Line) (next : S → Entry → S) (r : Reading C) (s : S) (bs : List ℕ) where
-  -- an input that is not too long
-  pub report_short : length bs ≤ 65535 → file_lines says next s (file r bs) ≡ report says next r s bs
-  report_short h = sym (cond-false (ltb 65535 (length bs)) _ (file_lines says next s (file r bs)) (le-ltb 65535 (length bs) h))
-
-  -- one that is
-  pub report_long : 65535 < length bs → TooLong ∷ [] ≡ report says next r s bs
-  report_long h = sym (cond-true (ltb 65535 (length bs)) (TooLong ∷ []) _ (lt-ltb 65535 (length bs) h))

@@ -5,6 +5,7 @@ use Rattle.grids.specs.Grids.{Grid, Tile, tile}
 use Rattle.cells.specs.Readings.{Reading}
 use Rattle.readings.specs.CellLists.{cells_of}
 use Rattle.drafts.specs.Making.{sheet}
+use Rattle.records.specs.Marks.{Mark, draft, tile as tile_mark, unknown}
 use Rattle.records.specs.Entries.{Entry, FaultAt}
 use Rattle.records.specs.Files.{File, file}
 use Rattle.lines.specs.declared.Line.{Line}
@@ -51,3 +52,31 @@ module _ {S : Type 0} (says : S → Entry → List Line) (next : S → Entry →
   -- the lines of an input from the state s on: over 65,535 bytes it is too long
   abbrev pub report : {C : Type 0} → Reading C → S → List ℕ → List Line
   report r s bs = cond (nat_lt 65535 (length bs)) (TooLong ∷ []) (file_lines s (file r bs))
+
+-- what a report makes of a tile and of a draft in a state: the lines that it adds, and the state after it
+pub record Telling (C S : Type 0) : Type 0 where
+  pub tile_lines : S → Tile C → List Line
+  pub tile_state : S → Tile C → S
+  pub draft_lines : S → Grid C → List Line
+  pub draft_state : S → Grid C → S
+
+module _ {C S : Type 0} (t : Telling C S) (r : Reading C) where
+  -- what a record with a given mark adds to the lines in the state s
+  abbrev pub lines_at : S → Entry → Mark → List Line
+  lines_at s e draft = t.draft_lines s (entry_grid r e)
+  lines_at s e tile_mark = t.tile_lines s (entry_tile r e)
+  lines_at s e unknown = []
+
+  -- the state after a record with a given mark
+  abbrev pub state_at : S → Entry → Mark → S
+  state_at s e draft = t.draft_state s (entry_grid r e)
+  state_at s e tile_mark = t.tile_state s (entry_tile r e)
+  state_at s e unknown = s
+
+  -- what a record adds to the lines
+  abbrev pub says : S → Entry → List Line
+  says s e = lines_at s e e.mark
+
+  -- the state after a record
+  abbrev pub next : S → Entry → S
+  next s e = state_at s e e.mark

@@ -1,12 +1,101 @@
 //! What all reports share: the lines that a program answers for a record file, one record after another.
 #![tactic(auto)]
 
-ghost use Rattle.std.specs.Prelude.{◌≡◌, ◌++◌, map, OnOk};
-ghost use Rattle.reports.specs.Reports.{place_line};
+ghost use Rattle.std.specs.Prelude.{◌≡◌, ◌++◌, map, IfOk, OnOk};
+ghost use Rattle.records.specs.Marks.{limit};
+ghost use Rattle.records.specs.Entries.{entry};
+ghost use Rattle.records.specs.Sound.{Sound};
+ghost use Rattle.reports.specs.Reports.{place_line, Telling, says, next, report};
+ghost use Rattle.reports.specs.Tiles.{shown};
 
+mod file_tile;
+
+use cells::Cell;
+use drafts::Draft;
+pub use file_tile::FileTile;
 use grids::Position;
 use lines::Line;
-use std::alloc::AllocError;
+use records::{Reader, Record};
+use sheets::ByteSheet;
+use std::alloc::{AllocError, Global};
+
+/// A work table, as long as every engine needs it.
+pub type WorkTable = [u32; 12288];
+
+/// What is made of the records of a file, one after another.
+pub trait Report<C: Cell> {
+    /// What the report keeps from record to record.
+    ghost State: { Type 0 };
+
+    /// What it keeps now.
+    ghost state: { Self → State };
+
+    /// The lines that it adds for a record, and what it then keeps.
+    ghost telling: { Telling C State };
+
+    /// Takes up a tile, and adds the lines of it.
+    fn tile(&mut self, tile: FileTile<C>, lines: &mut Vec<Line>) -> Result<(), AllocError>
+        ensures lines { OnOk result (lines.new.items ≡ lines.old.items ++ telling.tile_lines (state self.old) (shown tile)) }
+        ensures state { OnOk result (state self.new ≡ telling.tile_state (state self.old) (shown tile)) };
+
+    /// Takes up a draft, and adds the lines of it.
+    fn draft<D: Draft<Cell = C>>(
+        &mut self,
+        draft: &mut D,
+        lines: &mut Vec<Line>,
+    ) -> Result<(), AllocError>
+        ensures lines { OnOk result (lines.new.items ≡ lines.old.items ++ telling.draft_lines (state self.old) (D.Draft.shows draft.old).grid) }
+        ensures state { OnOk result (state self.new ≡ telling.draft_state (state self.old) (D.Draft.shows draft.old).grid) };
+}
+
+/// The lines of a record file.
+pub fn report_file<C: Cell + Clone + Default, R: Report<C>>(
+    heap: Global,
+    reporter: &mut R,
+    input: &[u8],
+) -> Result<Vec<Line>, AllocError>
+    ensures { IfOk result (λ v. v.items ≡ report (says R.Report.telling C.Cell.reading) (next R.Report.telling C.Cell.reading) C.Cell.reading (R.Report.state reporter.old) input.now) }
+{
+    let mut lines = Vec::new(heap);
+    if input.len() > 65535 {
+        lines.push(Line::TooLong)?;
+        return Ok(lines);
+    }
+    let mut reader = Reader::new(input);
+    loop {
+        match reader.next::<C>() {
+            Ok(Some(record)) => report_record(heap, reporter, record, &mut lines)?,
+            Ok(None) => return Ok(lines),
+            Err(fault) => {
+                lines.push(Line::Fault {
+                    number: fault.refusal.number(),
+                    at: fault.at,
+                })?;
+                return Ok(lines);
+            }
+        }
+    }
+}
+
+// Hands a record of the file to the report.
+fn report_record<C: Cell + Clone + Default, R: Report<C>>(
+    heap: Global,
+    reporter: &mut R,
+    record: Record<'_>,
+    lines: &mut Vec<Line>,
+) -> Result<(), AllocError>
+    requires { Sound C.Cell.reading (limit (entry «record»).mark) (entry «record») }
+    ensures lines { OnOk result (lines.new.items ≡ lines.old.items ++ says R.Report.telling C.Cell.reading (R.Report.state reporter.old) (entry «record».entry)) }
+    ensures state { OnOk result (R.Report.state reporter.new ≡ next R.Report.telling C.Cell.reading (R.Report.state reporter.old) (entry «record».entry)) }
+{
+    match record {
+        Record::Tile(body) => reporter.tile(FileTile::read(heap, &body)?, lines),
+        Record::Draft(body) => {
+            let mut sheet = ByteSheet::<C>::over(body.rows, body.cols, body.cells).unwrap();
+            reporter.draft(&mut sheet, lines)
+        }
+    }
+}
 
 /// Adds a line for each place of the tile with a number.
 pub fn push_places(

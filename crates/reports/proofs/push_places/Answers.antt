@@ -1,5 +1,5 @@
 use Rattle.std.proofs.Common.{[], ◌∷◌, ◌++◌, map, get_or, take, vec_items, sym, ap, ◌∙◌, append_assoc, arith}
-use Rattle.std.proofs.lemmas.List.{map_more, take_all}
+use Rattle.std.proofs.lemmas.List.{map_more}
 use Rattle.grids.specs.declared.Position.{Position}
 use Rattle.reports.specs.Reports.{place_line}
 use Rattle.reports.proofs.push_places.Goals as goal
@@ -13,6 +13,3 @@ loop-place-preserved c =
     let d : Position = record { row = 0; col = 0 } in
     c.in_ok-push.ensures.items
     ∙ (ap (λ xs. xs ++ f (get_or ps i d) ∷ []) c.loop-place.invariant ∙ (append_assoc base (map f (take i ps)) (f (get_or ps i d) ∷ []) ∙ ap (λ ys. base ++ ys) (sym (map_more f ps i d (omega arith)))))
-
-pub returns : goal.returns
-returns c = c.loop-place.invariant ∙ ap (λ qs. vec_items c.args.lines.now ++ map (place_line c.args.tile) qs) (take_all c.loop-place.place-index c.args.places.now (omega arith))
