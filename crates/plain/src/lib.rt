@@ -31,9 +31,7 @@ impl<C: Cell> Engine<C> for Plain {
         work: &mut [u32],
         list: &mut [Position],
     ) -> Result<Found, Refusal> {
-        if let Some(refusal) = engine::find_refusal(tile, work.len()) {
-            return Err(refusal);
-        }
+        engine::check_find(tile, work.len())?;
         Ok(sweep(draft, tile, list))
     }
 }
@@ -71,7 +69,7 @@ fn agree_at<C: Cell, D: Draft<Cell = C>>(draft: &mut D, row: usize, col: usize, 
     ensures counts { (D.Draft.tally draft.new).value ≡ raised (D.Draft.tally draft.old).value 1 }
 {
     match draft.look(row, col) {
-        Some(seen) => seen.same(cell),
+        Some(seen) => seen == cell,
         None => false,
     }
 }
