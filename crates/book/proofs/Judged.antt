@@ -2,6 +2,7 @@
 use Rattle.std.proofs.Common.{◌≡◌, ℕ, zero, suc, ◌+◌, ◌*◌, ◌^◌, ◌<◌, ◌≤◌, true, false, cond, List, [], ◌∷◌, ◌++◌, map, length, get_or, take, drop, set, sum_by, count_by, sym, refl, ap, ◌∙◌, subst, ap₂, arith}
 use lib.Lanes.{zip2}
 use Rattle.std.specs.List.{AllByRecursion}
+use Rattle.std.proofs.Math.Seq.{take-set-lt}
 use Rattle.std.proofs.lemmas.Nat.{mul-le}
 use Rattle.std.proofs.ByRecursion.{All-from_get_or}
 use Rattle.std.proofs.lemmas.List.{take_all, drop_all, append-nil, map-set, set-get_or}
@@ -34,15 +35,9 @@ looks_few rule g t d v =
 
 -- a table in which one entry has one stop more
 module _ (b d : Book) (n : ℕ) (h : n < b.count) (is : d.entries ≡ set b.entries n (stopped (entry_at b n))) (same : d.count ≡ b.count) where
-  take_set_lt : {X : Type 0} (m i : ℕ) (xs : List X) (x : X) → i < m → take m (set xs i x) ≡ set (take m xs) i x
-  take_set_lt zero i xs x l = absurd (omega arith)
-  take_set_lt (suc m) i [] x l = refl
-  take_set_lt (suc m) zero (y ∷ xs) x l = refl
-  take_set_lt (suc m) (suc i) (y ∷ xs) x l = ap (λ ys. y ∷ ys) (take_set_lt m i xs x (omega arith))
-
   told_raised : {X : Type 0} (f : TableEntry → X) → map f (entries_held d) ≡ set (map f (entries_held b)) n (f (stopped (entry_at b n)))
   told_raised f =
-      ap (map f) (ap₂ take same is ∙ take_set_lt b.count n b.entries (stopped (entry_at b n)) h)
+      ap (map f) (ap₂ take same is ∙ take-set-lt b.count b.entries n (stopped (entry_at b n)) h)
       ∙ map-set f (entries_held b) n (stopped (entry_at b n))
 
   pub sizes_raised : sizes d ≡ sizes b
@@ -126,22 +121,17 @@ module _ {C : Type 0} (k : Kind C) (rule : Rule C) (g : Grid C) (ts : List (Tile
       }
 
   -- once all are tried
-  pub upto_all : (n : ℕ) (d : Book) (v : Verdict) (y : ℕ) → length ts ≤ n → length ts ≡ length (stop_counts b) → Upto k rule g ts n b d v x y → (v ≡ verdict k rule g ts) × (stop_counts d ≡ zip2 (stops_after k g) ts (stop_counts b))
-  upto_all n d v y h l u =
+  pub upto_all : (cs : List C) (n : ℕ) (d : Book) (v : Verdict) (y : ℕ) → ts ≡ (held b cs).tiles → length ts ≤ n → length ts ≡ length (stop_counts b) → Upto k rule g ts n b d v x y → (v ≡ verdict k rule g ts) × (held d cs ≡ judged k g (held b cs))
+  upto_all cs n d v y e h l u =
       let t = take_all n ts h in
-      let F : ℕ → ℕ → Verdict = λ i j. record { found = i; looks = j } in (
-        ap₂ F (u.found ∙ ap (count_by (λ s. has_place k g (laid s))) t) (u.looks ∙ ap (sum_by (λ s. rule.looks g (laid s))) t),
-        u.stops ∙ (ap₂ (λ xs ms. zip2 (stops_after k g) xs ms ++ drop n (stop_counts b)) t (take_all n (stop_counts b) (omega (arith, h, l)))
-            ∙ (ap (λ ms. zip2 (stops_after k g) ts (stop_counts b) ++ ms) (drop_all n (stop_counts b) (omega (arith, h, l))) ∙ append-nil (zip2 (stops_after k g) ts (stop_counts b)))),
-      )
-
-  -- the model then
-  pub held-judged : (cs : List C) (n : ℕ) (d : Book) (v : Verdict) (y : ℕ) → ts ≡ (held b cs).tiles → length ts ≤ n → length ts ≡ length (stop_counts b) → Upto k rule g ts n b d v x y → held d cs ≡ judged k g (held b cs)
-  held-judged cs n d v y e h l u =
+      let found = u.found ∙ ap (count_by (λ s. has_place k g (laid s))) t in
+      let looks = u.looks ∙ ap (sum_by (λ s. rule.looks g (laid s))) t in
       let sizes_same = u.same_sizes in
-      let stops_are = (upto_all n d v y h l u).1 ∙ ap (λ us. zip2 (stops_after k g) us (stop_counts b)) e in
       let state_same = u.same_state in
-      λ i. record { tiles = cut (sizes_same i) cs; stops = stops_are i; trimmed = state_same i; store = cs }
+      let stops = u.stops ∙ (ap₂ (λ xs ms. zip2 (stops_after k g) xs ms ++ drop n (stop_counts b)) t (take_all n (stop_counts b) (omega (arith, h, l)))
+          ∙ (ap (λ ms. zip2 (stops_after k g) ts (stop_counts b) ++ ms) (drop_all n (stop_counts b) (omega (arith, h, l)))
+          ∙ (append-nil (zip2 (stops_after k g) ts (stop_counts b)) ∙ ap (λ us. zip2 (stops_after k g) us (stop_counts b)) e))) in
+      (λ i. record { found = found i; looks = looks i }, λ i. record { tiles = cut (sizes_same i) cs; stops = stops i; trimmed = state_same i; store = cs })
 
 -- a step on a draft and a book that show the same as at the start
 pub tried_same : {C : Type 0} (k : Kind C) (rule : Rule C) (g h : Grid C) (n : ℕ) (cs : List C) (b d e : Book) (v w : Verdict) (x y : ℕ) → h ≡ g → sizes d ≡ sizes b → Tried k rule h n (get_or (held d cs).tiles n no_tile) d e v w x y → Tried k rule g n (get_or (held b cs).tiles n no_tile) d e v w x y

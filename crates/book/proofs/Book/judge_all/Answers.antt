@@ -2,7 +2,8 @@ use Rattle.std.proofs.Common.{◌≤◌, length, sym, refl, ap, subst, ◌∙◌
 use Rattle.book.specs.Table.{size_of}
 use Rattle.book.specs.Models.{held, cut, cells_held}
 use Rattle.book.proofs.Tables.{length_told, tiles_counted}
-use Rattle.book.proofs.Judged.{upto_none, upto_more, upto_all, held-judged, tried_same}
+use Rattle.book.proofs.Accepting.{accepted_again}
+use Rattle.book.proofs.Judged.{upto_none, upto_more, upto_all, tried_same}
 use Rattle.book.proofs.Book.judge_all.Goals as goal
 
 pub loop-n-init : goal.loop-n-init
@@ -17,8 +18,7 @@ judge_tile-sum-requires g c =
     let u = c.loop-n.invariant.1 in
     record {
       within = omega (arith, c.loop-n-test.true, ap length u.same_sizes, length_told b size_of, length_told d size_of);
-      stored = subst (λ ss. cells_held (cut ss c.args.store.now) ≤ length c.args.store.now) (sym u.same_sizes) c.requires.stored;
-      room = omega (arith, c.loop-n.auto.work, c.requires.room);
+      accepted = accepted_again b d c.args.store.now _ _ u.same_sizes c.loop-n.auto.work c.requires;
       few = (omega (arith, u.few_found, b.few), omega (arith, u.few_looks, b.few));
     }
 
@@ -50,9 +50,5 @@ returns g c =
     let counted = tiles_counted b cs l.n in
     let told = length_told b (λ x. x.stops) in
     let all : length (held b cs).tiles ≤ l.n = omega (arith, counted, c.loop-n-test.false) in
-    record {
-      answer = (upto_all k rule grid (held b cs).tiles b _ l.n l.self l.sum _ all (counted ∙ sym told) u).0;
-      state = held-judged k rule grid (held b cs).tiles b _ cs l.n l.self l.sum _ refl all (counted ∙ sym told) u;
-      same = l.invariant.0;
-      counts = u.counts;
-    }
+    let judged = upto_all k rule grid (held b cs).tiles b _ cs l.n l.self l.sum _ refl all (counted ∙ sym told) u in
+    record { answer = judged.0; state = judged.1; same = l.invariant.0; counts = u.counts }
