@@ -1,6 +1,7 @@
 -- Tiles whose cells lie one after another in a store.
 use Rattle.std.proofs.Common.{◌≡◌, ℕ, zero, suc, ◌+◌, ◌<◌, ◌≤◌, List, [], ◌∷◌, ◌++◌, map, length, get_or, take, drop, sum_by, sym, refl, ap, ◌∙◌, ap₂, append_assoc, arith}
 use Rattle.std.specs.List.{AllByRecursion}
+use Rattle.std.proofs.Math.Seq.{take-add}
 use Rattle.std.proofs.lemmas.List.{length-take-le, length-drop, drop-drop, take_at, drop_at}
 use Rattle.std.proofs.lemmas.List.Sums.{sum_by-cons}
 use Rattle.grids.specs.Grids.{Tile, tile}
@@ -42,24 +43,12 @@ module _ {C : Type 0} where
       let n = sum_by-cons area s ss in
       (length-take-le (area s) cs (omega (arith, n)), whole_cut ss (drop (area s) cs) (omega (arith, n, length-drop (area s) cs)))
 
-  take_plus : (m n : ℕ) (cs : List C) → take (m + n) cs ≡ take m cs ++ take n (drop m cs)
-  take_plus zero n cs = ap (λ i. take i cs) (omega arith)
-  take_plus (suc m) n [] = take-nil (suc m + n) ∙ sym (take-nil n)
-    where
-      take-nil : (i : ℕ) → ◌≡◌ {A = List C} (take i []) []
-      take-nil zero = refl
-      take-nil (suc i) = refl
-  take_plus (suc m) n (x ∷ cs) = ap (λ i. take i (x ∷ cs)) i ∙ ap (λ xs. x ∷ xs) (take_plus m n cs)
-    where
-      i : suc m + n ≡ suc (m + n)
-      i = omega arith
-
   -- the cells of the tiles are the front of the store
   pub joined_cut : (ss : List (ℕ × ℕ)) (cs : List C) → all_cells (cut ss cs) ≡ take (sum_by area ss) cs
   joined_cut [] cs = refl
   joined_cut (s ∷ ss) cs =
       ap (λ xs. take (area s) cs ++ xs) (joined_cut ss (drop (area s) cs))
-      ∙ (sym (take_plus (area s) (sum_by area ss) cs) ∙ ap (λ n. take n cs) (sym (sum_by-cons area s ss)))
+      ∙ (sym (take-add (area s) (sum_by area ss) cs) ∙ ap (λ n. take n cs) (sym (sum_by-cons area s ss)))
 
   pub take-cut : (n : ℕ) (ss : List (ℕ × ℕ)) (cs : List C) → take n (cut ss cs) ≡ cut (take n ss) cs
   take-cut zero ss cs = refl

@@ -1,6 +1,7 @@
 -- A tile put into table and store.
 use Rattle.std.proofs.Common.{◌≡◌, ℕ, ◌+◌, ◌-◌, ◌≤◌, Bool, false, List, [], ◌∷◌, ◌++◌, map, length, take, drop, sum_by, sym, refl, ap, ◌∙◌, ap₂, append_assoc, arith}
 use Rattle.std.specs.List.{insert}
+use Rattle.std.proofs.lemmas.Grind.{flat_map-append}
 use Rattle.std.proofs.lemmas.List.{length-take-le, length-drop, length-append, take_all}
 use Rattle.std.proofs.lemmas.List.Sums.{sum_by-take-le, sum_by-take-drop}
 use Rattle.grids.specs.Grids.{Tile}
@@ -12,10 +13,6 @@ use Rattle.book.proofs.Cuts.{Whole, tile_size, sizes-cut, whole_cut, joined_cut,
 use Rattle.book.proofs.Inserts.{put_items, all_inserted, map_inserted}
 
 module _ {C : Type 0} where
-  joined_append : (ss ts : List (Tile C)) → all_cells (ss ++ ts) ≡ all_cells ss ++ all_cells ts
-  joined_append [] ts = refl
-  joined_append (s ∷ ss) ts = ap (λ cs. s.cells ++ cs) (joined_append ss ts) ∙ sym (append_assoc s.cells (all_cells ss) (all_cells ts))
-
   -- the tile t goes in at number n among tiles of the sizes ss, whose cells are in cs
   module _ (ss : List (ℕ × ℕ)) (cs : List C) (n : ℕ) (t : Tile C) (whole : Whole t) (room : sum_by area ss + tile_area t ≤ length cs) where
     -- the cells of the new list of tiles
@@ -23,7 +20,7 @@ module _ {C : Type 0} where
     cells_inserted =
         let at = sum_by area (take n ss) in
         let rest : sum_by area (drop n ss) ≡ sum_by area ss - at = omega (arith, sum_by-take-drop area ss n) in
-        joined_append (take n (cut ss cs)) (t ∷ drop n (cut ss cs))
+        flat_map-append (λ u. u.cells) (take n (cut ss cs)) (t ∷ drop n (cut ss cs))
         ∙ ap₂ (λ xs ys. xs ++ (t.cells ++ ys))
         (ap all_cells (take-cut n ss cs) ∙ joined_cut (take n ss) cs)
         (ap all_cells (drop-cut n ss cs) ∙ (joined_cut (drop n ss) (drop at cs) ∙ ap (λ i. take i (drop at cs)) rest))

@@ -2,8 +2,11 @@
 use Rattle.std.proofs.Common.{◌≡◌, ℕ, suc, ◌+◌, ◌<◌, ◌≤◌, Bool, true, false, cond, not, ◌||◌, eqb, ltb, List, [], ◌∷◌, map, length, get_or, take, Some, None, Option, sum_by, count_by, sym, refl, ap, ◌∙◌, subst, arith}
 use Rattle.std.specs.List.{prefix_len, position_or_len, list_any, range_with_len, AllByRecursion, slice_get}
 use Rattle.std.specs.Option.{unwrap_or}
+use Rattle.std.proofs.ByRecursion.{All-from_get_or}
+use Rattle.std.proofs.lemmas.Option.{get_or_from_slice_get, slice_get_within}
+use Rattle.std.proofs.lemmas.List.{length-take-le, get_or-take}
 use Rattle.std.proofs.lemmas.List.FromFn.{fill_by_all, length-range_with_len}
-use Rattle.std.proofs.lemmas.List.Sums.{sum_by-cons, prefix_len-le-length}
+use Rattle.std.proofs.lemmas.List.Sums.{sum_by-cons, prefix_len-le-length, prefix_len_passes, prefix_len_stops}
 use Rattle.std.proofs.lemmas.Bool.{cond_both, ne_eqb, ltb-false}
 use Rattle.grids.specs.Kinds.{Kind}
 use Rattle.grids.specs.Grids.{Tile}
@@ -16,35 +19,20 @@ use Rattle.book.proofs.Cuts.{cells_cut}
 use Rattle.book.proofs.Tables.{tiles_counted}
 use Rattle.book.proofs.Accepting.{accepted}
 
--- the leading ones pass the test, and the next does not
-leading_pass : {X : Type 0} (p : X → Bool) (xs : List X) → AllByRecursion (λ x. p x ≡ true) (take (prefix_len p xs) xs)
-leading_pass p [] = tt
-leading_pass p (x ∷ xs) =
-    let rest = leading_pass p xs in
-    cond_both (p x) (1 + prefix_len p xs) 0 (λ n. AllByRecursion (λ y. p y ≡ true) (take n (x ∷ xs)))
-    (λ e. let i : suc (prefix_len p xs) ≡ 1 + prefix_len p xs = omega arith in subst (λ n. AllByRecursion (λ y. p y ≡ true) (take n (x ∷ xs))) i (e, rest))
-    (λ _. tt)
-
-leading_next : {X : Type 0} (p : X → Bool) (xs : List X) (y : X) → slice_get xs (prefix_len p xs) ≡ Some y → p y ≡ false
-leading_next p [] y h = let z : ◌≡◌ {A = ℕ} 0 1 = cc in absurd (omega arith)
-leading_next p (x ∷ xs) y h =
-    let rest = leading_next p xs y in
-    cond_both (p x) (1 + prefix_len p xs) 0 (λ n. slice_get (x ∷ xs) n ≡ Some y → p y ≡ false)
-    (λ _ g. let i : 1 + prefix_len p xs ≡ suc (prefix_len p xs) = omega arith in rest (subst (λ n. slice_get (x ∷ xs) n ≡ Some y) i g))
-    (λ f g. let e : x ≡ y = cc in subst (λ u. p u ≡ false) e f)
-    h
-
 -- what `position` answers of a list of length l whose first element to pass is number m
 abbrev pub found_at : ℕ → ℕ → Option ℕ
 found_at m l = cond (ltb m l) (Some m) None
 
 module _ {C : Type 0} (k : Kind C) (t : Tile C) (ts : List (Tile C)) where
   pub insertion_point_is : InsertionPoint k t ts (insertion_point k t ts)
-  insertion_point_is = record {
-    few = prefix_len-le-length (λ u. (tiles k).before u t) ts;
-    earlier = leading_pass (λ u. (tiles k).before u t) ts;
-    next = leading_next (λ u. (tiles k).before u t) ts;
-  }
+  insertion_point_is =
+      let p : Tile C → Bool = λ u. (tiles k).before u t in
+      let few = prefix_len-le-length p ts in
+      record {
+        few = few;
+        earlier = All-from_get_or (λ u. p u ≡ true) (take (prefix_len p ts) ts) no_tile (λ i l. let m : i < prefix_len p ts = omega (arith, l, length-take-le (prefix_len p ts) ts few) in ap p (get_or-take (prefix_len p ts) ts i no_tile m) ∙ prefix_len_passes p ts i no_tile m);
+        next = λ u h. ap p (sym (get_or_from_slice_get ts (prefix_len p ts) u no_tile h)) ∙ prefix_len_stops p ts no_tile (slice_get_within ts (prefix_len p ts) u h);
+      }
 
 list_any-map : {X Y : Type 0} (p : Y → Bool) (f : X → Y) (xs : List X) → list_any p (map f xs) ≡ list_any (λ x. p (f x)) xs
 list_any-map p f [] = refl

@@ -2,6 +2,7 @@
 use Rattle.std.proofs.Common.{◌≡◌, ℕ, zero, suc, ◌+◌, ◌*◌, ◌^◌, ◌<◌, ◌≤◌, true, false, cond, List, [], ◌∷◌, ◌++◌, map, length, get_or, take, drop, set, sum_by, count_by, sym, refl, ap, ◌∙◌, subst, ap₂, arith}
 use lib.Lanes.{zip2}
 use Rattle.std.specs.List.{AllByRecursion}
+use Rattle.std.proofs.Math.Seq.{take-set-lt}
 use Rattle.std.proofs.lemmas.Nat.{mul-le}
 use Rattle.std.proofs.ByRecursion.{All-from_get_or}
 use Rattle.std.proofs.lemmas.List.{take_all, drop_all, append-nil, map-set, set-get_or}
@@ -22,7 +23,7 @@ use Rattle.book.specs.Table.{stopped, size_of, one_more}
 use Rattle.book.specs.Models.{sizes, stop_counts, entries_held, no_tile, cut, held, Stored, is_trimmed}
 use Rattle.book.specs.Judging.{verdict, stops_after, judged}
 use Rattle.book.specs.Progress.{Tried}
-use Rattle.book.proofs.Tables.{entry_at, told_at, tiles_counted, part_tile, part_valid}
+use Rattle.book.proofs.Tables.{entry_at, told_at, length_told, tiles_counted, part_tile, part_valid}
 
 -- what a looking rule's bound comes to
 pub looks_few : {C : Type 0} (rule : Rule C) (g : Grid C) (t : Tile C) → Drawn g → Valid t → rule.looks g (laid t) ≤ 2 ^ 33
@@ -34,15 +35,9 @@ looks_few rule g t d v =
 
 -- a table in which one entry has one stop more
 module _ (b d : Book) (n : ℕ) (h : n < b.count) (is : d.entries ≡ set b.entries n (stopped (entry_at b n))) (same : d.count ≡ b.count) where
-  take_set_lt : {X : Type 0} (m i : ℕ) (xs : List X) (x : X) → i < m → take m (set xs i x) ≡ set (take m xs) i x
-  take_set_lt zero i xs x l = absurd (omega arith)
-  take_set_lt (suc m) i [] x l = refl
-  take_set_lt (suc m) zero (y ∷ xs) x l = refl
-  take_set_lt (suc m) (suc i) (y ∷ xs) x l = ap (λ ys. y ∷ ys) (take_set_lt m i xs x (omega arith))
-
   told_raised : {X : Type 0} (f : TableEntry → X) → map f (entries_held d) ≡ set (map f (entries_held b)) n (f (stopped (entry_at b n)))
   told_raised f =
-      ap (map f) (ap₂ take same is ∙ take_set_lt b.count n b.entries (stopped (entry_at b n)) h)
+      ap (map f) (ap₂ take same is ∙ take-set-lt b.count b.entries n (stopped (entry_at b n)) h)
       ∙ map-set f (entries_held b) n (stopped (entry_at b n))
 
   pub sizes_raised : sizes d ≡ sizes b
@@ -94,6 +89,13 @@ changed_more f (t ∷ ts) [] n d h l = absurd (omega arith)
 changed_more f (t ∷ ts) (m ∷ ms) zero d h l = refl
 changed_more f (t ∷ ts) (m ∷ ms) (suc n) d h l = ap (λ xs. f t m ∷ xs) (changed_more f ts ms n d (omega arith) (omega arith))
 
+-- a step on a draft and a book that show the same as at the start
+pub tried_same : {C : Type 0} (k : Kind C) (rule : Rule C) (g h : Grid C) (n : ℕ) (cs : List C) (b d e : Book) (v w : Verdict) (x y : ℕ) → h ≡ g → sizes d ≡ sizes b → Tried k rule h n (get_or (held d cs).tiles n no_tile) d e v w x y → Tried k rule g n (get_or (held b cs).tiles n no_tile) d e v w x y
+tried_same {C} k rule g h n cs b d e v w x y p q t =
+    let P : Grid C → Type 0 = λ o. Tried k rule o n (get_or (held b cs).tiles n no_tile) d e v w x y in
+    let Q : List (ℕ × ℕ) → Type 0 = λ ss. Tried k rule h n (get_or (cut ss cs) n no_tile) d e v w x y in
+    subst P p (subst Q q t)
+
 -- the first n of the tiles ts were tried
 pub record Upto {C : Type 0} (k : Kind C) (rule : Rule C) (g : Grid C) (ts : List (Tile C)) (n : ℕ) (b d : Book) (v : Verdict) (x y : ℕ) : Type 0 where
   pub same_sizes : sizes d ≡ sizes b
@@ -105,50 +107,44 @@ pub record Upto {C : Type 0} (k : Kind C) (rule : Rule C) (g : Grid C) (ts : Lis
   pub few_found : v.found ≤ n
   pub few_looks : v.looks ≤ n * 2 ^ 33
 
-module _ {C : Type 0} (k : Kind C) (rule : Rule C) (g : Grid C) (ts : List (Tile C)) (b : Book) (x : ℕ) where
-  pub upto_none : x < 2 ^ 64 → Upto k rule g ts 0 b b (record { found = 0; looks = 0 }) x x
+module _ {C : Type 0} (k : Kind C) (rule : Rule C) (g : Grid C) (b : Book) (cs : List C) (x : ℕ) where
+  pub upto_none : x < 2 ^ 64 → Upto k rule g (held b cs).tiles 0 b b (record { found = 0; looks = 0 }) x x
   upto_none h = record { same_sizes = refl; same_state = refl; stops = refl; found = refl; looks = refl; counts = omega arith; few_found = omega arith; few_looks = omega arith }
 
-  pub upto_more : (n : ℕ) (d e : Book) (v w : Verdict) (y z : ℕ) → n < length ts → length ts ≡ length (stop_counts b) → Upto k rule g ts n b d v x y → Tried k rule g n (get_or ts n no_tile) d e v w y z → Upto k rule g ts (n + 1) b e w x z
-  upto_more n d e v w y z h l u t =
+  pub upto_more : (n : ℕ) (d e : Book) (v w : Verdict) (y z : ℕ) (h : Grid C) → h ≡ g → n < b.count → Upto k rule g (held b cs).tiles n b d v x y → Tried k rule h n (get_or (held d cs).tiles n no_tile) d e v w y z → Upto k rule g (held b cs).tiles (n + 1) b e w x z
+  upto_more n d e v w y z h same l u tried =
+      let ts = (held b cs).tiles in
+      let t = tried_same k rule g h n cs b d e v w y z same u.same_sizes tried in
       let next = get_or ts n no_tile in
+      let long : n < length ts = omega (arith, l, tiles_counted b cs n) in
+      let more = changed_more (stops_after k g) ts (stop_counts b) n no_tile long (omega (arith, l, length_told b (λ i. i.stops))) in
       let one : cond (has_place k g (laid next)) 1 0 ≤ 1 = cond_both (has_place k g (laid next)) 1 0 (λ i. i ≤ 1) (λ _. omega arith) (λ _. omega arith) in
       let i : suc n ≡ n + 1 = omega arith in
       record {
         same_sizes = t.same_sizes ∙ u.same_sizes;
         same_state = t.same_state ∙ u.same_state;
-        stops = t.stops ∙ (ap (λ ms. set ms n (stops_after k g next (get_or ms n 0))) u.stops ∙ (changed_more (stops_after k g) ts (stop_counts b) n no_tile h (omega (arith, h, l)) ∙ ap (changed (stops_after k g) ts (stop_counts b)) i));
-        found = t.found ∙ (ap (λ m. m + cond (has_place k g (laid next)) 1 0) u.found ∙ sym (sum_by_more (λ s. cond (has_place k g (laid s)) 1 0) ts n no_tile h));
-        looks = t.looks ∙ (ap (λ m. m + rule.looks g (laid next)) u.looks ∙ sym (sum_by_more (λ s. rule.looks g (laid s)) ts n no_tile h));
+        stops = t.stops ∙ (ap (λ ms. set ms n (stops_after k g next (get_or ms n 0))) u.stops ∙ (more ∙ ap (changed (stops_after k g) ts (stop_counts b)) i));
+        found = t.found ∙ (ap (λ m. m + cond (has_place k g (laid next)) 1 0) u.found ∙ sym (sum_by_more (λ s. cond (has_place k g (laid s)) 1 0) ts n no_tile long));
+        looks = t.looks ∙ (ap (λ m. m + rule.looks g (laid next)) u.looks ∙ sym (sum_by_more (λ s. rule.looks g (laid s)) ts n no_tile long));
         counts = omega (arith, t.counts, u.counts, t.looks);
         few_found = omega (arith, t.found, one, u.few_found);
         few_looks = omega (arith, t.few, u.few_looks);
       }
 
   -- once all are tried
-  pub upto_all : (n : ℕ) (d : Book) (v : Verdict) (y : ℕ) → length ts ≤ n → length ts ≡ length (stop_counts b) → Upto k rule g ts n b d v x y → (v ≡ verdict k rule g ts) × (stop_counts d ≡ zip2 (stops_after k g) ts (stop_counts b))
-  upto_all n d v y h l u =
-      let t = take_all n ts h in
-      let F : ℕ → ℕ → Verdict = λ i j. record { found = i; looks = j } in (
-        ap₂ F (u.found ∙ ap (count_by (λ s. has_place k g (laid s))) t) (u.looks ∙ ap (sum_by (λ s. rule.looks g (laid s))) t),
-        u.stops ∙ (ap₂ (λ xs ms. zip2 (stops_after k g) xs ms ++ drop n (stop_counts b)) t (take_all n (stop_counts b) (omega (arith, h, l)))
-            ∙ (ap (λ ms. zip2 (stops_after k g) ts (stop_counts b) ++ ms) (drop_all n (stop_counts b) (omega (arith, h, l))) ∙ append-nil (zip2 (stops_after k g) ts (stop_counts b)))),
-      )
-
-  -- the model then
-  pub held-judged : (cs : List C) (n : ℕ) (d : Book) (v : Verdict) (y : ℕ) → ts ≡ (held b cs).tiles → length ts ≤ n → length ts ≡ length (stop_counts b) → Upto k rule g ts n b d v x y → held d cs ≡ judged k g (held b cs)
-  held-judged cs n d v y e h l u =
+  pub upto_all : (n : ℕ) (d : Book) (v : Verdict) (y : ℕ) → b.count ≤ n → Upto k rule g (held b cs).tiles n b d v x y → (v ≡ verdict k rule g (held b cs).tiles) × (held d cs ≡ judged k g (held b cs))
+  upto_all n d v y h u =
+      let ts = (held b cs).tiles in
+      let ms = stop_counts b in
+      let all = take_all n ts (omega (arith, h, tiles_counted b cs n)) in
+      let few : length ms ≤ n = omega (arith, h, length_told b (λ i. i.stops)) in
+      let found = u.found ∙ ap (count_by (λ s. has_place k g (laid s))) all in
+      let looks = u.looks ∙ ap (sum_by (λ s. rule.looks g (laid s))) all in
+      let stops = u.stops ∙ (ap₂ (λ xs ns. zip2 (stops_after k g) xs ns ++ drop n ms) all (take_all n ms few)
+          ∙ (ap (λ ns. zip2 (stops_after k g) ts ms ++ ns) (drop_all n ms few) ∙ append-nil (zip2 (stops_after k g) ts ms))) in
       let sizes_same = u.same_sizes in
-      let stops_are = (upto_all n d v y h l u).1 ∙ ap (λ us. zip2 (stops_after k g) us (stop_counts b)) e in
       let state_same = u.same_state in
-      λ i. record { tiles = cut (sizes_same i) cs; stops = stops_are i; trimmed = state_same i; store = cs }
-
--- a step on a draft and a book that show the same as at the start
-pub tried_same : {C : Type 0} (k : Kind C) (rule : Rule C) (g h : Grid C) (n : ℕ) (cs : List C) (b d e : Book) (v w : Verdict) (x y : ℕ) → h ≡ g → sizes d ≡ sizes b → Tried k rule h n (get_or (held d cs).tiles n no_tile) d e v w x y → Tried k rule g n (get_or (held b cs).tiles n no_tile) d e v w x y
-tried_same {C} k rule g h n cs b d e v w x y p q t =
-    let P : Grid C → Type 0 = λ o. Tried k rule o n (get_or (held b cs).tiles n no_tile) d e v w x y in
-    let Q : List (ℕ × ℕ) → Type 0 = λ ss. Tried k rule h n (get_or (cut ss cs) n no_tile) d e v w x y in
-    subst P p (subst Q q t)
+      (λ i. record { found = found i; looks = looks i }, λ i. record { tiles = cut (sizes_same i) cs; stops = stops i; trimmed = state_same i; store = cs })
 
 -- of a book whose cells are all in the store, every place that is listed is one, and none is missing
 pub all_exact : {C : Type 0} (k : Kind C) (laws : Lawful k) (g : Grid C) (b : Book) (cs : List C) → Stored (held b cs) → AllByRecursion (Exact k g) (held b cs).tiles

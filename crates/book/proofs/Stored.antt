@@ -1,7 +1,7 @@
 -- The cells held are in the store, whatever is entered or judged.
 use Rattle.std.proofs.Common.{◌≡◌, ℕ, ◌+◌, true, List, [], ◌∷◌, take, drop, Some, None, Option, refl, arith}
 use Rattle.std.specs.List.{insert}
-use Rattle.std.proofs.lemmas.List.Sums.{sum_by-append, sum_by-cons, sum_by-take-drop}
+use Rattle.std.proofs.lemmas.List.Sums.{sum_by-insert}
 use Rattle.grids.specs.Kinds.{Kind}
 use Rattle.grids.specs.Grids.{Tile}
 use Rattle.grids.specs.Refusals.{kept_or}
@@ -16,9 +16,6 @@ pub held_new : {C : Type 0} (b : Book) (cs : List C) → sizes b ≡ [] → stop
 held_new b cs p q r = λ i. record { tiles = cut (p i) cs; stops = q i; trimmed = r i; store = cs }
 
 module _ {C : Type 0} where
-  cells_inserted : (ts : List (Tile C)) (n : ℕ) (t : Tile C) → cells_held (insert ts n t) ≡ cells_held ts + tile_area t
-  cells_inserted ts n t = omega (arith, sum_by-append tile_area (take n ts) (t ∷ drop n ts), sum_by-cons tile_area t (drop n ts), sum_by-take-drop tile_area ts n)
-
   module _ (k : Kind C) (s : Held C) (t : Tile C) where
     pub entered_stored : Stored s → Stored (enter_state k s t)
     entered_stored h = by_refusal (enter_refusal k s t) refl
@@ -27,4 +24,4 @@ module _ {C : Type 0} where
         by_refusal (Some n) e = h
         by_refusal None e =
             let n = insertion_point k t s.tiles in
-            omega (arith, (accepted k s t e).2, cells_inserted s.tiles n t, length-listed (all_cells (insert s.tiles n t)) s.store)
+            omega (arith, (accepted k s t e).2, sum_by-insert tile_area s.tiles n t, length-listed (all_cells (insert s.tiles n t)) s.store)

@@ -8,7 +8,7 @@ ghost use Rattle.drafts.specs.Tallies.{raised};
 ghost use Rattle.engine.specs.Views.{viewed};
 ghost use Rattle.engine.specs.Finding.{finding};
 ghost use Rattle.book.specs.Table.{no_entry, stopped};
-ghost use Rattle.book.specs.Models.{held, Stored, no_tile};
+ghost use Rattle.book.specs.Models.{held, no_tile};
 ghost use Rattle.book.specs.Judging.{judge_refusal, verdict, judged, Judges, judge_tally};
 ghost use Rattle.book.specs.Progress.{Tried};
 
@@ -82,8 +82,7 @@ impl Book {
         draft: &mut D,
         work: &mut [u32],
     ) -> Verdict
-        requires stored { Stored (held self.old store.now) }
-        requires room { 12288 ≤ length work.old }
+        requires { judge_refusal (held self.old store.now) (length work.old) ≡ None }
         ensures answer { result ≡ verdict C.Cell.kind E.Engine.rule (D.Draft.shows draft.old).grid (held self.old store.now).tiles }
         ensures state { held self.new store.now ≡ judged C.Cell.kind (D.Draft.shows draft.old).grid (held self.old store.now) }
         ensures same { (D.Draft.shows draft.new).grid ≡ (D.Draft.shows draft.old).grid }
@@ -107,8 +106,7 @@ impl Book {
         before: Verdict,
     ) -> Verdict
         requires within { number < self.old.count }
-        requires stored { Stored (held self.old store.now) }
-        requires room { 12288 ≤ length work.old }
+        requires accepted { judge_refusal (held self.old store.now) (length work.old) ≡ None }
         requires few { (before.found < 2 ^ 32) × (before.looks < 2 ^ 48) }
         ensures tried { Tried C.Cell.kind E.Engine.rule (D.Draft.shows draft.old).grid number (slice_index_or (held self.old store.now).tiles number no_tile) self.old self.new before result (D.Draft.tally draft.old).value (D.Draft.tally draft.new).value }
         ensures same { (D.Draft.shows draft.new).grid ≡ (D.Draft.shows draft.old).grid }
