@@ -93,9 +93,6 @@ pub record Upto {C : Type 0} (k : Kind C) (rule : Rule C) (g : Grid C) (ts : Lis
   pub few_looks : v.looks ≤ n * 2 ^ 33
 
 module _ {C : Type 0} (k : Kind C) (rule : Rule C) (g : Grid C) (b : Book) (cs : List C) (x : ℕ) where
-  pub upto_none : x < 2 ^ 64 → Upto k rule g (held b cs).tiles 0 b b (record { found = 0; looks = 0 }) x x
-  upto_none h = record { same_sizes = refl; same_state = refl; stops = refl; found = refl; looks = refl; counts = omega arith; few_found = omega arith; few_looks = omega arith }
-
   pub upto_more : (n : ℕ) (d e : Book) (v w : Verdict) (y z : ℕ) (h : Grid C) → h ≡ g → n < b.count → Upto k rule g (held b cs).tiles n b d v x y → Tried k rule h n (get_or (held d cs).tiles n no_tile) d e v w y z → Upto k rule g (held b cs).tiles (n + 1) b e w x z
   upto_more n d e v w y z h same l u tried =
       let ts = (held b cs).tiles in
