@@ -7,8 +7,7 @@ use Rattle.grids.specs.Refusals.{first_failed, unless}
 use Rattle.grids.proofs.Refusing.{failed_first, failed_then, passed, passed_both, unless_ok, unless_err, unless_none, unless_some}
 use Rattle.engine.specs.Finding.{tile_checks}
 use Rattle.engine.proofs.Accepting.{valid_checked}
-use Rattle.book.specs.declared.Book.{Book}
-use Rattle.book.specs.Models.{Held, sizes, held, tile_area, cells_held, Stored, store_refusal, hand_out_refusal}
+use Rattle.book.specs.Models.{Held, tile_area, cells_held, Stored, store_refusal, hand_out_refusal}
 use Rattle.book.specs.Entering.{times_held, insertion_point, enter_refusal, enter_answer}
 use Rattle.book.specs.Judging.{judge_refusal}
 
@@ -67,10 +66,6 @@ module _ {C : Type 0} (s : Held C) (w : ℕ) where
       let room : List (Bool × ℕ) = (leb 12288 w, 8) ∷ [] in
       let first = passed (leb (cells_held s.tiles) (length s.store)) 7 room e in
       (leb-true (cells_held s.tiles) (length s.store) first.0, leb-true 12288 w (passed (leb 12288 w) 8 [] first.1).0)
-
--- a book of the same sizes, with as long a work table
-pub accepted_again : {C : Type 0} (b d : Book) (cs : List C) (v w : ℕ) → sizes d ≡ sizes b → w ≡ v → judge_refusal (held b cs) v ≡ None → judge_refusal (held d cs) w ≡ None
-accepted_again b d cs v w p q none = cc
 
 -- whether a store has room
 module _ {C : Type 0} (s : Held C) (m : ℕ) where

@@ -1,13 +1,15 @@
 -- A tile put into table and store.
-use Rattle.std.proofs.Common.{◌≡◌, ℕ, ◌+◌, ◌-◌, ◌≤◌, Bool, false, List, [], ◌∷◌, ◌++◌, map, length, take, drop, sum_by, sym, refl, ap, ◌∙◌, ap₂, append_assoc, arith}
+use Rattle.std.proofs.Common.{◌≡◌, ℕ, ◌+◌, ◌-◌, ◌≤◌, false, List, ◌∷◌, ◌++◌, map, length, take, drop, sum_by, sym, ap, ◌∙◌, ap₂, append_assoc, arith}
 use Rattle.std.specs.List.{insert}
 use Rattle.std.proofs.lemmas.Grind.{flat_map-append}
 use Rattle.std.proofs.lemmas.List.{length-take-le, length-drop, length-append, take_all}
 use Rattle.std.proofs.lemmas.List.Sums.{sum_by-take-le, sum_by-take-drop}
 use Rattle.grids.specs.Grids.{Tile}
 use Rattle.grids.specs.Listed.{listed}
-use Rattle.book.specs.Table.{area}
-use Rattle.book.specs.Models.{Held, cut, tile_area}
+use Rattle.book.specs.declared.Book.{Book}
+use Rattle.book.specs.declared.TableEntry.{TableEntry}
+use Rattle.book.specs.Table.{area, size_of}
+use Rattle.book.specs.Models.{entries_held, sizes, is_trimmed, held, cut, tile_area}
 use Rattle.book.specs.Entering.{all_cells, entered_at}
 use Rattle.book.proofs.Cuts.{Whole, tile_size, sizes-cut, whole_cut, joined_cut, take-cut, drop-cut, cut_joined}
 use Rattle.book.proofs.Inserts.{put_items, all_inserted, map_inserted}
@@ -53,10 +55,16 @@ module _ {C : Type 0} where
         ap₂ cut (sym e) put_front
         ∙ cut_joined us (drop (sum_by area ss + length t.cells) cs) (all_inserted Whole (cut ss cs) n t whole (whole_cut ss cs (omega arith)))
 
-  -- the model after it
-  pub held-entered : (ss zs : List (ℕ × ℕ)) (ns ms : List ℕ) (y z : Bool) (cs ds : List C) (n i : ℕ) (t : Tile C) → Whole t → sum_by area ss + tile_area t ≤ length cs → i ≡ sum_by area (take n ss) → zs ≡ insert ss n (tile_size t) → ms ≡ insert ns n 0 → z ≡ false → ds ≡ put_items cs i (sum_by area ss) t.cells → ◌≡◌ {A = Held C} (record { tiles = cut zs ds; stops = ms; trimmed = z; store = ds }) (entered_at n (record { tiles = cut ss cs; stops = ns; trimmed = y; store = cs }) t)
-  held-entered ss zs ns ms y z cs ds n i t w r a p q f d =
-      let e : ds ≡ put_items cs (sum_by area (take n ss)) (sum_by area ss) t.cells = d ∙ ap (λ j. put_items cs j (sum_by area ss) t.cells) a in
-      let g = ap₂ cut p e ∙ put_tiles ss cs n t w r in
-      let h = e ∙ put_listed ss cs n t w r in
-      λ j. record { tiles = g j; stops = q j; trimmed = f j; store = h j }
+  -- the entry of a tile that is new in the table
+  abbrev pub entry_of : Tile C → TableEntry
+  entry_of t = record { rows = t.rows; cols = t.cols; stops = 0 }
+
+  -- the model after it, where d has one entry more than b
+  pub held-entered : (b d : Book) (cs ds : List C) (n i j : ℕ) (t : Tile C) → Whole t → sum_by area (sizes b) + tile_area t ≤ length cs → i ≡ sum_by area (take n (sizes b)) → j ≡ sum_by area (sizes b) → entries_held d ≡ insert (entries_held b) n (entry_of t) → is_trimmed d ≡ false → ds ≡ put_items cs i j t.cells → held d ds ≡ entered_at n (held b cs) t
+  held-entered b d cs ds n i j t w r p q es f c =
+      let sized = ap (map size_of) es ∙ map_inserted size_of (entries_held b) n (entry_of t) in
+      let stops = ap (map (λ x. x.stops)) es ∙ map_inserted (λ x. x.stops) (entries_held b) n (entry_of t) in
+      let put : ds ≡ put_items cs (sum_by area (take n (sizes b))) (sum_by area (sizes b)) t.cells = c ∙ ap₂ (λ l m. put_items cs l m t.cells) p q in
+      let g = ap₂ cut sized put ∙ put_tiles (sizes b) cs n t w r in
+      let h = put ∙ put_listed (sizes b) cs n t w r in
+      λ l. record { tiles = g l; stops = stops l; trimmed = f l; store = h l }

@@ -1,6 +1,6 @@
 -- Where a tile goes in, and whether it is held already.
-use Rattle.std.proofs.Common.{◌≡◌, ℕ, suc, ◌+◌, ◌<◌, ◌≤◌, Bool, true, false, cond, not, ◌||◌, eqb, ltb, List, [], ◌∷◌, map, length, get_or, take, Some, None, Option, sum_by, count_by, sym, refl, ap, ◌∙◌, subst, arith}
-use Rattle.std.specs.List.{prefix_len, position_or_len, list_any, range_with_len, AllByRecursion, slice_get}
+use Rattle.std.proofs.Common.{◌≡◌, ℕ, ◌+◌, ◌<◌, ◌≤◌, Bool, true, false, cond, not, ◌||◌, eqb, ltb, List, [], ◌∷◌, map, length, get_or, take, Some, None, Option, sum_by, count_by, sym, refl, ap, ◌∙◌, arith}
+use Rattle.std.specs.List.{prefix_len, position_or_len, list_any, range_with_len}
 use Rattle.std.specs.Option.{unwrap_or}
 use Rattle.std.proofs.ByRecursion.{All-from_get_or}
 use Rattle.std.proofs.lemmas.Option.{get_or_from_slice_get, slice_get_within}

@@ -1,5 +1,5 @@
 -- A draft judged tile by tile.
-use Rattle.std.proofs.Common.{◌≡◌, ℕ, zero, suc, ◌+◌, ◌*◌, ◌^◌, ◌<◌, ◌≤◌, true, false, cond, List, [], ◌∷◌, ◌++◌, map, length, get_or, take, drop, set, sum_by, count_by, sym, refl, ap, ◌∙◌, subst, ap₂, arith}
+use Rattle.std.proofs.Common.{◌≡◌, ℕ, zero, suc, ◌+◌, ◌*◌, ◌^◌, ◌<◌, ◌≤◌, true, cond, List, [], ◌∷◌, ◌++◌, map, length, get_or, take, drop, set, sum_by, count_by, sym, refl, ap, ◌∙◌, subst, ap₂, arith}
 use lib.Lanes.{zip2}
 use Rattle.std.specs.List.{AllByRecursion}
 use Rattle.std.proofs.Math.Seq.{take-set-lt}
@@ -7,7 +7,7 @@ use Rattle.std.proofs.lemmas.Nat.{mul-le}
 use Rattle.std.proofs.ByRecursion.{All-from_get_or}
 use Rattle.std.proofs.lemmas.List.{take_all, drop_all, append-nil, map-set, set-get_or}
 use Rattle.std.proofs.lemmas.List.Sums.{sum_by_more}
-use Rattle.std.proofs.lemmas.Bool.{cond-true, cond-false, cond_both, lt-ltb, le-ltb}
+use Rattle.std.proofs.lemmas.Bool.{cond-true, cond_both, lt-ltb}
 use Rattle.grids.specs.declared.Found.{Found}
 use Rattle.grids.specs.Kinds.{Kind, Lawful}
 use Rattle.grids.specs.Grids.{Grid, Tile, Drawn, Valid, laid}
@@ -64,21 +64,6 @@ module _ {C : Type 0} (k : Kind C) (rule : Rule C) (g : Grid C) (n : ℕ) (t : T
         counts = counts ∙ ap (raised x) looks_is;
       }
 
-  -- it was not found, and the book stays
-  pub tried_not : f.places ≤ 0 → Tried k rule g n t b b v (record { found = v.found; looks = v.looks + f.looks }) x y
-  tried_not p =
-      let no : has_place k g (laid t) ≡ false = le-ltb 0 _ (omega (arith, p, ap (λ q. q.places) answer)) in
-      let m = get_or (stop_counts b) n 0 in
-      record {
-        same_sizes = refl;
-        same_state = refl;
-        stops = sym (ap (set (stop_counts b) n) (cond-false (has_place k g (laid t)) (one_more m) m no) ∙ set-get_or (stop_counts b) n 0);
-        found = omega (arith, cond-false {A = ℕ} (has_place k g (laid t)) 1 0 no);
-        looks = ap (λ i. v.looks + i) looks_is;
-        few = omega (arith, few);
-        counts = counts ∙ ap (raised x) looks_is;
-      }
-
 -- the first n stop counts changed by f
 abbrev changed : {X : Type 0} → (X → ℕ → ℕ) → List X → List ℕ → ℕ → List ℕ
 changed f ts ms n = zip2 f (take n ts) (take n ms) ++ drop n ms
@@ -108,9 +93,6 @@ pub record Upto {C : Type 0} (k : Kind C) (rule : Rule C) (g : Grid C) (ts : Lis
   pub few_looks : v.looks ≤ n * 2 ^ 33
 
 module _ {C : Type 0} (k : Kind C) (rule : Rule C) (g : Grid C) (b : Book) (cs : List C) (x : ℕ) where
-  pub upto_none : x < 2 ^ 64 → Upto k rule g (held b cs).tiles 0 b b (record { found = 0; looks = 0 }) x x
-  upto_none h = record { same_sizes = refl; same_state = refl; stops = refl; found = refl; looks = refl; counts = omega arith; few_found = omega arith; few_looks = omega arith }
-
   pub upto_more : (n : ℕ) (d e : Book) (v w : Verdict) (y z : ℕ) (h : Grid C) → h ≡ g → n < b.count → Upto k rule g (held b cs).tiles n b d v x y → Tried k rule h n (get_or (held d cs).tiles n no_tile) d e v w y z → Upto k rule g (held b cs).tiles (n + 1) b e w x z
   upto_more n d e v w y z h same l u tried =
       let ts = (held b cs).tiles in
@@ -141,7 +123,7 @@ module _ {C : Type 0} (k : Kind C) (rule : Rule C) (g : Grid C) (b : Book) (cs :
       let found = u.found ∙ ap (count_by (λ s. has_place k g (laid s))) all in
       let looks = u.looks ∙ ap (sum_by (λ s. rule.looks g (laid s))) all in
       let stops = u.stops ∙ (ap₂ (λ xs ns. zip2 (stops_after k g) xs ns ++ drop n ms) all (take_all n ms few)
-          ∙ (ap (λ ns. zip2 (stops_after k g) ts ms ++ ns) (drop_all n ms few) ∙ append-nil (zip2 (stops_after k g) ts ms))) in
+      ∙ (ap (λ ns. zip2 (stops_after k g) ts ms ++ ns) (drop_all n ms few) ∙ append-nil (zip2 (stops_after k g) ts ms))) in
       let sizes_same = u.same_sizes in
       let state_same = u.same_state in
       (λ i. record { found = found i; looks = looks i }, λ i. record { tiles = cut (sizes_same i) cs; stops = stops i; trimmed = state_same i; store = cs })

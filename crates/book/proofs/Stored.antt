@@ -1,5 +1,5 @@
 -- The cells held are in the store, whatever is entered or judged.
-use Rattle.std.proofs.Common.{◌≡◌, ℕ, ◌+◌, true, List, [], ◌∷◌, take, drop, Some, None, Option, refl, arith}
+use Rattle.std.proofs.Common.{◌≡◌, ℕ, true, List, [], Some, None, Option, refl, arith}
 use Rattle.std.specs.List.{insert}
 use Rattle.std.proofs.lemmas.List.Sums.{sum_by-insert}
 use Rattle.grids.specs.Kinds.{Kind}
@@ -7,7 +7,7 @@ use Rattle.grids.specs.Grids.{Tile}
 use Rattle.grids.specs.Refusals.{kept_or}
 use Rattle.grids.proofs.Writing.{length-listed}
 use Rattle.book.specs.declared.Book.{Book}
-use Rattle.book.specs.Models.{Held, sizes, stop_counts, is_trimmed, cut, held, empty, tile_area, cells_held, Stored}
+use Rattle.book.specs.Models.{Held, sizes, stop_counts, is_trimmed, cut, held, empty, tile_area, Stored}
 use Rattle.book.specs.Entering.{all_cells, insertion_point, enter_refusal, entered, enter_state}
 use Rattle.book.proofs.Accepting.{accepted}
 

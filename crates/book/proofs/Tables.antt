@@ -1,5 +1,5 @@
 -- The entries of a book's table.
-use Rattle.std.proofs.Common.{◌≡◌, ℕ, ◌+◌, ◌-◌, ◌^◌, ◌<◌, ◌≤◌, ltb, List, [], ◌∷◌, map, length, get_or, take, drop, Some, None, Ok, Err, sum_by, sym, refl, ap, ap₂, ◌∙◌, subst, arith}
+use Rattle.std.proofs.Common.{◌≡◌, ℕ, ◌+◌, ◌-◌, ◌^◌, ◌<◌, ◌≤◌, List, [], ◌∷◌, map, length, get_or, take, drop, sum_by, sym, refl, ap, ap₂, ◌∙◌, subst, arith}
 use Rattle.std.specs.List.{insert}
 use Rattle.std.proofs.lemmas.Nat.{mul-le}
 use Rattle.std.proofs.lemmas.List.Edits.{length-insert}
@@ -7,16 +7,13 @@ use Rattle.std.proofs.ByRecursion.{All-get_or, All-from_get_or}
 use Rattle.std.proofs.lemmas.List.Elements.{All-from_get_or as Each-from_get_or}
 use Rattle.std.proofs.lemmas.List.{length-take-le, length-drop, length-map, get_or-map, get_or-take, take-take, take-map}
 use Rattle.std.proofs.lemmas.List.Sums.{sum_by_more, sum_by-take-le, sum_by-cons, sum_by-le}
-use Rattle.std.proofs.lemmas.Bool.{cond-true, cond-false, lt-ltb, le-ltb}
 use Rattle.grids.specs.Grids.{Valid, tile}
-use Rattle.grids.specs.Refusals.{unless}
-use Rattle.grids.proofs.Refusing.{unless_none, unless_some}
 use Rattle.book.specs.declared.Book.{Book}
 use Rattle.book.specs.declared.TableEntry.{TableEntry}
 use Rattle.book.specs.Table.{Sized, no_entry, size_of, area}
-use Rattle.book.specs.Models.{entries_held, sizes, number_refusal, cut, held, Stored, no_tile}
+use Rattle.book.specs.Models.{entries_held, sizes, cut, held, Stored, no_tile}
 use Rattle.book.proofs.Cuts.{length_cut, cut_at, cells_cut}
-use Rattle.book.proofs.Inserts.{put_items, length_put_items, take_put_item, all_inserted}
+use Rattle.book.proofs.Inserts.{put_items, take_put_item, all_inserted}
 
 -- the entry with a number
 abbrev pub entry_at : Book → ℕ → TableEntry
@@ -40,13 +37,6 @@ module _ (b : Book) where
 
     pub told_at : (n : ℕ) (d : X) → n < b.count → get_or (map f (entries_held b)) n d ≡ f (entry_at b n)
     told_at n d h = get_or-map f (entries_held b) n no_entry d (omega (arith, h, length-held)) ∙ ap f (get_or-take b.count b.entries n no_entry h)
-
-    -- the answer to a question for it
-    pub told_refused : (n : ℕ) (d : X) → b.count ≤ n → Err 5 ≡ unless (number_refusal (length (map f (entries_held b))) n) (get_or (map f (entries_held b)) n d)
-    told_refused n d h = unless_some _ 5 _ (cond-false (ltb n (length (map f (entries_held b)))) None (Some 5) (le-ltb n _ (omega (arith, h, length_told))))
-
-    pub told_given : (n : ℕ) (d : X) → n < b.count → Ok (f (entry_at b n)) ≡ unless (number_refusal (length (map f (entries_held b))) n) (get_or (map f (entries_held b)) n d)
-    told_given n d h = unless_none _ _ _ (cond-true (ltb n (length (map f (entries_held b)))) None (Some 5) (lt-ltb n _ (omega (arith, h, length_told)))) (sym (told_at n d h))
 
   -- the sum of the first n entries' cells
   pub table_few : (n : ℕ) → n ≤ b.count → sum_by (λ e. area (size_of e)) (take n b.entries) < 2 ^ 64
@@ -101,15 +91,12 @@ module _ {C : Type 0} (b : Book) (cs : List C) (n : ℕ) where
           }
 
 -- the table with one entry more
-module _ (b : Book) (n : ℕ) (e : TableEntry) (es : List TableEntry) (few : b.count < 32) (within : n ≤ b.count) (sized : Sized e) (is : es ≡ put_items b.entries n b.count (e ∷ [])) where
+module _ (b : Book) (n : ℕ) (e : TableEntry) (es : List TableEntry) (few : b.count < 32) (within : n ≤ b.count) (is : es ≡ put_items b.entries n b.count (e ∷ [])) where
   pub put_held : take (b.count + 1) es ≡ insert (entries_held b) n e
   put_held = ap (take (b.count + 1)) is ∙ take_put_item b.entries e n b.count within (omega (arith, few, b.long))
 
-  pub put_long : length es ≡ 32
-  put_long = ap length is ∙ (length_put_items b.entries (e ∷ []) n b.count within (omega (arith, few, b.long)) ∙ b.long)
-
-  pub put_sized : (i : ℕ) → i < b.count + 1 → Sized (get_or es i no_entry)
-  put_sized i h =
+  pub put_sized : Sized e → (i : ℕ) → i < b.count + 1 → Sized (get_or es i no_entry)
+  put_sized sized i h =
       let all = all_inserted Sized (entries_held b) n e sized (All-from_get_or Sized (entries_held b) no_entry (λ j l. let m : j < b.count = omega (arith, l, length-held b) in subst Sized (sym (get_or-take b.count b.entries j no_entry m)) (b.sized j m))) in
       let long = length-insert (entries_held b) n e (omega (arith, within, length-held b)) in
       subst Sized (sym (ap (λ xs. get_or xs i no_entry) put_held) ∙ get_or-take (b.count + 1) es i no_entry h) (All-get_or Sized (insert (entries_held b) n e) i no_entry (omega (arith, long, length-held b, h)) all)

@@ -11,7 +11,8 @@ use cells::Cell;
 use engine::{TileView, ValidTile};
 use grids::Refusal;
 
-// A book, and a store that has the cells of all its tiles.
+// A book, and a store that has the cells of all its tiles. A call that changes the book takes the
+// two apart: a ghost field beside a `&mut` is not covered.
 #[derive(Drop)]
 pub(crate) struct HeldTiles<'b, 's, C> {
     pub(crate) book: &'b Book,

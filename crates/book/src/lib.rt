@@ -28,11 +28,12 @@ pub struct Verdict {
 /// lends to each call.
 #[derive(Drop)]
 pub struct Book {
-    // An array and a count, since the book allocates nothing.
+    // An array and a count, since the library allocates nothing.
     entries: [TableEntry; 32],
     count: usize,
     trimmed: bool,
     ghost few: { count ≤ 32 },
     ghost long: { length entries ≡ 32 },
+    // Of the entries held alone, so it is a fact of the book and not of an entry: the rest are empty.
     ghost sized: { (n : ℕ) → n < count → Sized (slice_index_or entries n no_entry) },
 }
