@@ -1,8 +1,9 @@
 -- Cells that are read one after another.
-use Rattle.std.proofs.Common.{◌≡◌, ℕ, zero, suc, ◌+◌, ◌-◌, ◌*◌, ◌<◌, ◌≤◌, true, false, List, [], ◌∷◌, length, take, drop, set, is_some, Some, None, Option, unwrap_or, sym, refl, ap, ◌∙◌, subst, suc-mul, zero-mul, arith}
+use Rattle.std.proofs.Common.{◌≡◌, ℕ, zero, suc, ◌+◌, ◌*◌, ◌/◌, ◌<◌, ◌≤◌, true, false, List, [], ◌∷◌, ◌++◌, length, take, drop, set, is_some, Some, None, Option, unwrap_or, sym, refl, ap, ◌∙◌, ⊎_elim, suc-mul, zero-mul, add-one, arith, length-append}
 use Rattle.std.specs.List.{slice_get}
-use Rattle.std.proofs.lemmas.List.{length-take, drop-drop, take-take, drop-take}
-use Rattle.std.proofs.lemmas.Bool.{both_ways}
+use Rattle.std.proofs.lemmas.List.{length-set, length-take, length-drop, take_at, drop_at, drop-drop, take-take, drop-take}
+use Rattle.std.proofs.Math.Nat.{le-div_iff_mul-le}
+use Rattle.std.proofs.lemmas.Bool.{both_ways, cases_Bool}
 use Rattle.cells.specs.Readings.{Reading, Readable}
 use Rattle.grids.specs.Listed.{listed, filled}
 use Rattle.grids.proofs.Writing.{filled-listed}
@@ -37,68 +38,124 @@ module _ {C : Type 0} where
   later (Some x) None i h = absurd (both_ways false refl h)
   later (Some x) (Some xs) i h = refl
 
+-- from rest, which was to give m parts of w bytes, came the part x; more is left, which is to give i parts of v bytes
+pub record Step (m w : ℕ) (rest : List ℕ) (i v : ℕ) (more x : List ℕ) : Type 0 where
+  pub fewer : i + 1 ≡ m
+  pub size : v ≡ w
+  pub parts : rest ≡ x ++ more
+  pub long : length x ≡ w
+
 module _ {C : Type 0} (k : Reading C) (readable : Readable k) where
-  -- bytes that are fewer than a cell takes read as no cell
-  pub none_short : (bs : List ℕ) (o : Option C) → k.reads (take k.width bs) ≡ o → length bs < k.width → is_some o ≡ false
-  none_short bs None e l = refl
-  none_short bs (Some x) e l = absurd (omega (arith, readable.exact (take k.width bs) x e, length-take k.width bs))
+  long_read : (bs : List ℕ) (o : Option C) → k.reads (take k.width bs) ≡ o → is_some o ≡ true → k.width ≤ length bs
+  long_read bs None e h = absurd (both_ways false refl h)
+  long_read bs (Some x) e h = omega (arith, readable.exact (take k.width bs) x e, length-take k.width bs)
+
+  -- cells that read have all their bytes
+  pub cells_long : (n : ℕ) (bs : List ℕ) → is_some (cells_read k n bs) ≡ true → n * k.width ≤ length bs
+  cells_long zero bs h = omega (arith, zero-mul k.width)
+  cells_long (suc n) bs h =
+      let p = onto_parts (k.reads (take k.width bs)) (cells_read k n (drop k.width bs)) h in
+      omega (arith, suc-mul n k.width, long_read bs (k.reads (take k.width bs)) refl p.0, cells_long n (drop k.width bs) p.1, length-drop k.width bs)
+
+  -- bytes for fewer cells than n do not read as n cells
+  pub cells_short : (n w : ℕ) (bs : List ℕ) → w ≡ k.width → length bs / w < n → false ≡ is_some (cells_read k n bs)
+  cells_short n w bs e h =
+      ⊎_elim
+      (λ y.
+      let l : n * w ≤ length bs = omega (arith, cells_long n bs y, ap (λ j. n * j) e) in
+      let some : 0 < w = omega (arith, e, readable.some) in
+      absurd (omega (arith, h, (le-div_iff_mul-le some).1 l)))
+      (λ y. sym y)
+      (cases_Bool (is_some (cells_read k n bs)))
+
+  -- where no part comes, none was to come
+  pub no_more : (m w : ℕ) (rest : List ℕ) → w ≡ k.width → m * w ≤ length rest → (0 < m → length rest < w) → m ≡ 0
+  no_more zero w rest e l f = refl
+  no_more (suc m) w rest e l f = absurd (omega (arith, suc-mul m w, l, f (omega arith)))
 
 module _ {C : Type 0} (k : Reading C) where
-  -- what a part of w bytes reads as, where w is the kind's width
-  pub read_part : (w : ℕ) (rest part : List ℕ) (o : Option C) → w ≡ k.width → part ≡ take w rest → o ≡ k.reads part → k.reads (take k.width rest) ≡ o
-  read_part w rest part o e f h = sym (h ∙ ap k.reads (f ∙ ap (λ n. take n rest) e))
+  -- a cell and the cells after it
+  cells_step : (m w : ℕ) (rest : List ℕ) (i v : ℕ) (more x : List ℕ) → w ≡ k.width → Step m w rest i v more x → cells_read k m rest ≡ onto (k.reads x) (cells_read k i more)
+  cells_step m w rest i v more x e s =
+      let l : length x ≡ k.width = s.long ∙ e in
+      let z : suc i ≡ m = omega (arith, s.fewer) in
+      ap (λ j. cells_read k j rest) (sym z) ∙ (ap (cells_read k (suc i)) s.parts
+      ∙ (ap (λ ys. onto (k.reads ys) (cells_read k i (drop k.width (x ++ more)))) (take_at x more k.width l)
+      ∙ ap (λ ys. onto (k.reads x) (cells_read k i ys)) (drop_at x more k.width l)))
 
-  -- a check of n cells of bs has found that the first i read, and that rest are the bytes after them
-  pub record Checked (n : ℕ) (bs : List ℕ) (i : ℕ) (rest : List ℕ) : Type 0 where
-    pub left : is_some (cells_read k n bs) ≡ is_some (cells_read k (n - i) rest)
+  step_long : (m w : ℕ) (rest : List ℕ) (i v : ℕ) (more x : List ℕ) → m * w ≤ length rest → Step m w rest i v more x → i * v ≤ length more
+  step_long m w rest i v more x l s =
+      let z : m * w ≡ suc i * w = ap (λ j. j * w) (sym s.fewer ∙ add-one i) in
+      omega (arith, l, z, suc-mul i w, ap (λ j. i * j) s.size, ap length s.parts, length-append x more, s.long)
 
-  pub checked_none : (n : ℕ) (bs : List ℕ) → Checked n bs 0 bs
-  checked_none n bs = let e : n - 0 ≡ n = omega arith in record { left = ap (λ m. is_some (cells_read k m bs)) (sym e) }
+  -- a check of n cells of bs has come to the last m of them, whose bytes are at the front of rest
+  pub record Checked (n : ℕ) (bs : List ℕ) (m w : ℕ) (rest : List ℕ) : Type 0 where
+    pub wide : w ≡ k.width
+    pub long : m * w ≤ length rest
+    pub left : is_some (cells_read k n bs) ≡ is_some (cells_read k m rest)
 
-  next : (n i : ℕ) → i < n → n - i ≡ suc (n - (i + 1))
-  next n i h = omega arith
-
-  pub checked_more : (n : ℕ) (bs : List ℕ) (i w : ℕ) (rest more : List ℕ) (o : Option C) → i < n → w ≡ k.width → more ≡ drop w rest → k.reads (take k.width rest) ≡ o → is_some o ≡ true → Checked n bs i rest → Checked n bs (i + 1) more
-  checked_more n bs i w rest more o h e d r s c =
-      let y : is_some (k.reads (take k.width rest)) ≡ true = ap is_some r ∙ s in
-      subst (Checked n bs (i + 1)) (sym (d ∙ ap (λ m. drop m rest) e)) (record { left = c.left ∙ (ap (λ m. is_some (cells_read k m rest)) (next n i h) ∙ onto_some (k.reads (take k.width rest)) (cells_read k (n - (i + 1)) (drop k.width rest)) y) })
-
-  pub checked_stop : (n : ℕ) (bs : List ℕ) (i : ℕ) (rest : List ℕ) → i < n → is_some (k.reads (take k.width rest)) ≡ false → Checked n bs i rest → false ≡ is_some (cells_read k n bs)
-  checked_stop n bs i rest h y c = sym (c.left ∙ (ap (λ m. is_some (cells_read k m rest)) (next n i h) ∙ onto_none (k.reads (take k.width rest)) (cells_read k (n - (i + 1)) (drop k.width rest)) y))
-
-  pub checked_all : (n : ℕ) (bs : List ℕ) (i : ℕ) (rest : List ℕ) → n ≤ i → Checked n bs i rest → true ≡ is_some (cells_read k n bs)
-  checked_all n bs i rest h c = let e : n - i ≡ 0 = omega arith in sym (c.left ∙ ap (λ m. is_some (cells_read k m rest)) e)
-
-  -- the first i of n cells of bs have been written over old, and to write the cells of rest from i on is all that is left
-  pub record Copied (n : ℕ) (bs : List ℕ) (old : List C) (i : ℕ) (rest : List ℕ) (new : List C) : Type 0 where
-    pub read : is_some (cells_read k (n - i) rest) ≡ true
-    pub left : filled i (cells_of k (n - i) rest) new ≡ listed (cells_of k n bs) old
-
-  pub copied_none : (n : ℕ) (bs : List ℕ) (old : List C) → is_some (cells_read k n bs) ≡ true → Copied n bs old 0 bs old
-  copied_none n bs old h =
-      let e : n ≡ n - 0 = omega arith in
+  pub checked_none : (n : ℕ) (bs : List ℕ) (m w : ℕ) (rest : List ℕ) → m ≡ n → rest ≡ bs → w ≡ k.width → 0 < w → n ≤ length bs / w → Checked n bs m w rest
+  checked_none n bs m w rest e f d h l =
       record {
-        read = ap (λ m. is_some (cells_read k m bs)) (sym e) ∙ h;
-        left = ap (λ m. filled 0 (cells_of k m bs) old) (sym e) ∙ filled-listed (cells_of k n bs) old;
+        wide = d;
+        long = omega (arith, ap (λ j. j * w) e, ap length f, (le-div_iff_mul-le h).0 l);
+        left = ap (λ j. is_some (cells_read k j bs)) (sym e) ∙ ap (λ ys. is_some (cells_read k m ys)) (sym f);
       }
 
-  -- where a cell is still to be read, its bytes are there and read as one
-  pub copied_reads : (n : ℕ) (bs : List ℕ) (old : List C) (i : ℕ) (rest : List ℕ) (new : List C) → i < n → Copied n bs old i rest new → is_some (k.reads (take k.width rest)) ≡ true
-  copied_reads n bs old i rest new h c = (onto_parts (k.reads (take k.width rest)) (cells_read k (n - (i + 1)) (drop k.width rest)) (ap (λ m. is_some (cells_read k m rest)) (sym (next n i h)) ∙ c.read)).0
+  pub checked_more : (n : ℕ) (bs : List ℕ) (m w : ℕ) (rest : List ℕ) (i v : ℕ) (more x : List ℕ) → Checked n bs m w rest → Step m w rest i v more x → is_some (k.reads x) ≡ true → Checked n bs i v more
+  checked_more n bs m w rest i v more x c s y =
+      record {
+        wide = s.size ∙ c.wide;
+        long = step_long m w rest i v more x c.long s;
+        left = c.left ∙ (ap is_some (cells_step m w rest i v more x c.wide s) ∙ onto_some (k.reads x) (cells_read k i more) y);
+      }
 
-  pub copied_more : (n : ℕ) (bs : List ℕ) (old : List C) (i w : ℕ) (rest more : List ℕ) (new : List C) (x : C) → i < n → w ≡ k.width → more ≡ drop w rest → k.reads (take k.width rest) ≡ Some x → Copied n bs old i rest new → Copied n bs old (i + 1) more (set new i x)
-  copied_more n bs old i w rest more new x h e d y c =
-      let o = k.reads (take k.width rest) in
-      let p = cells_read k (n - (i + 1)) (drop k.width rest) in
-      let s = (onto_parts o p (ap (λ m. is_some (cells_read k m rest)) (sym (next n i h)) ∙ c.read)).1 in
-      let v : cells_of k (n - i) rest ≡ x ∷ unwrap_or p [] = ap (λ m. cells_of k m rest) (next n i h) ∙ onto_value o p x y s in
-      subst (λ ys. Copied n bs old (i + 1) ys (set new i x)) (sym (d ∙ ap (λ m. drop m rest) e)) (record {
-        read = s;
-        left = ap (λ xs. filled i xs new) (sym v) ∙ c.left;
-      })
+  pub checked_stop : (n : ℕ) (bs : List ℕ) (m w : ℕ) (rest : List ℕ) (i v : ℕ) (more x : List ℕ) → Checked n bs m w rest → Step m w rest i v more x → is_some (k.reads x) ≡ false → false ≡ is_some (cells_read k n bs)
+  checked_stop n bs m w rest i v more x c s y = sym (c.left ∙ (ap is_some (cells_step m w rest i v more x c.wide s) ∙ onto_none (k.reads x) (cells_read k i more) y))
 
-  pub copied_all : (n : ℕ) (bs : List ℕ) (old : List C) (i : ℕ) (rest : List ℕ) (new : List C) → n ≤ i → Copied n bs old i rest new → new ≡ listed (cells_of k n bs) old
-  copied_all n bs old i rest new h c = let e : n - i ≡ 0 = omega arith in ap (λ m. filled i (cells_of k m rest) new) (sym e) ∙ c.left
+  pub checked_all : (n : ℕ) (bs : List ℕ) (m w : ℕ) (rest : List ℕ) → Checked n bs m w rest → m ≡ 0 → true ≡ is_some (cells_read k n bs)
+  checked_all n bs m w rest c z = sym (c.left ∙ ap (λ j. is_some (cells_read k j rest)) z)
+
+  -- of n cells of bs, i have been written over old, which gave new; the bytes of the last m are at the front of rest
+  pub record Copied (n : ℕ) (bs : List ℕ) (old : List C) (i m w : ℕ) (rest : List ℕ) (new : List C) : Type 0 where
+    pub wide : w ≡ k.width
+    pub count : i + m ≡ n
+    pub as_long : length new ≡ length old
+    pub read : is_some (cells_read k m rest) ≡ true
+    pub left : filled i (cells_of k m rest) new ≡ listed (cells_of k n bs) old
+
+  pub copied_none : (n : ℕ) (bs : List ℕ) (old : List C) (i m w : ℕ) (rest : List ℕ) → i ≡ 0 → m ≡ n → rest ≡ bs → w ≡ k.width → is_some (cells_read k n bs) ≡ true → Copied n bs old i m w rest old
+  copied_none n bs old i m w rest z e f d h =
+      let read : is_some (cells_read k m rest) ≡ true = ap (λ j. is_some (cells_read k j rest)) e ∙ (ap (λ ys. is_some (cells_read k n ys)) f ∙ h) in
+      let cells : cells_of k m rest ≡ cells_of k n bs = ap (λ j. cells_of k j rest) e ∙ ap (cells_of k n) f in
+      record {
+        wide = d;
+        count = omega (arith, z, e);
+        as_long = refl;
+        read = read;
+        left = ap (λ j. filled j (cells_of k m rest) old) z ∙ (ap (λ xs. filled 0 xs old) cells ∙ filled-listed (cells_of k n bs) old);
+      }
+
+  -- a part that comes reads as a cell
+  pub copied_reads : (n : ℕ) (bs : List ℕ) (old : List C) (i m w : ℕ) (rest : List ℕ) (new : List C) (j v : ℕ) (more x : List ℕ) → Copied n bs old i m w rest new → Step m w rest j v more x → is_some (k.reads x) ≡ true
+  copied_reads n bs old i m w rest new j v more x c s = (onto_parts (k.reads x) (cells_read k j more) (ap is_some (sym (cells_step m w rest j v more x c.wide s)) ∙ c.read)).0
+
+  pub copied_more : (n : ℕ) (bs : List ℕ) (old : List C) (i m w : ℕ) (rest : List ℕ) (new : List C) (j v : ℕ) (more x : List ℕ) (y : C) (at next : ℕ) → Copied n bs old i m w rest new → Step m w rest j v more x → k.reads x ≡ Some y → at ≡ i → next ≡ i + 1 → Copied n bs old next j v more (set new at y)
+  copied_more n bs old i m w rest new j v more x y at next c s e f h =
+      let p = cells_read k j more in
+      let q = cells_step m w rest j v more x c.wide s in
+      let r = (onto_parts (k.reads x) p (ap is_some (sym q) ∙ c.read)).1 in
+      let z : cells_of k m rest ≡ y ∷ unwrap_or p [] = ap (λ o. unwrap_or o []) q ∙ onto_value (k.reads x) p y e r in
+      record {
+        wide = s.size ∙ c.wide;
+        count = omega (arith, c.count, s.fewer, h);
+        as_long = length-set new at y ∙ c.as_long;
+        read = r;
+        left = ap (λ l. filled l (cells_of k j more) (set new at y)) h ∙ (ap (λ l. filled (i + 1) (cells_of k j more) (set new l y)) f ∙ (ap (λ xs. filled i xs new) (sym z) ∙ c.left));
+      }
+
+  pub copied_all : (n : ℕ) (bs : List ℕ) (old : List C) (i m w : ℕ) (rest : List ℕ) (new : List C) → Copied n bs old i m w rest new → m ≡ 0 → new ≡ listed (cells_of k n bs) old
+  copied_all n bs old i m w rest new c z = ap (λ j. filled i (cells_of k j rest) new) (sym z) ∙ c.left
 
   -- there are as many cells as were asked for
   pub length_cells : (n : ℕ) (bs : List ℕ) → is_some (cells_read k n bs) ≡ true → length (cells_of k n bs) ≡ n

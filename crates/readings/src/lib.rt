@@ -13,17 +13,13 @@ use grids::Refusal;
 pub fn all_read<C: Cell>(count: usize, bytes: &[u8]) -> bool
     ensures { result ≡ is_some (cells_read C.Cell.reading count bytes.now) }
 {
-    let width = C::BYTES;
-    let mut rest = bytes;
-    for _ in 0..count {
-        if rest.len() < width {
-            return false;
-        }
-        let (cell, more) = rest.split_at(width);
+    if bytes.len() / C::BYTES < count {
+        return false;
+    }
+    for cell in bytes.chunks_exact(C::BYTES).take(count) {
         if C::read(cell).is_none() {
             return false;
         }
-        rest = more;
     }
     true
 }
@@ -49,16 +45,9 @@ fn copy_cells<C: Cell>(count: usize, bytes: &[u8], cells: &mut [C])
     requires read { is_some (cells_read C.Cell.reading count bytes.now) ≡ true }
     ensures { cells.new ≡ listed (cells_of C.Cell.reading count bytes.now) cells.old }
 {
-    let width = C::BYTES;
-    let mut rest = bytes;
-    for i in 0..count {
-        if rest.len() < width {
-            return;
-        }
-        let (cell, more) = rest.split_at(width);
+    for (i, cell) in bytes.chunks_exact(C::BYTES).take(count).enumerate() {
         if let Some(x) = C::read(cell) {
             cells[i] = x;
         }
-        rest = more;
     }
 }
