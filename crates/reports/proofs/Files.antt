@@ -19,18 +19,18 @@ answer_is e h = ap (λ u. Ok (option_map entry u)) (sym e) ∙ h
 -- what a reader's answer tells of what stood before it
 at_end : (n : ℕ) (f : Front) → Ok None ≡ next_answer n f → f ≡ end
 at_end n end h = refl
-at_end n (faulty m) h = let z : ◌≡◌ {A = ℕ} 0 1 = cc in absurd (omega arith)
-at_end n (whole e m) h = let z : ◌≡◌ {A = ℕ} 0 1 = cc in absurd (omega arith)
+at_end n (faulty m) h = absurd cc
+at_end n (whole e m) h = absurd cc
 
 at_record : (n : ℕ) (f : Front) (e : Entry) → Ok (Some e) ≡ next_answer n f → (m : ℕ) × (f ≡ whole e m)
-at_record n end e h = let z : ◌≡◌ {A = ℕ} 0 1 = cc in absurd (omega arith)
-at_record n (faulty m) e h = let z : ◌≡◌ {A = ℕ} 0 1 = cc in absurd (omega arith)
+at_record n end e h = absurd cc
+at_record n (faulty m) e h = absurd cc
 at_record n (whole d m) e h = let x : d ≡ e = cc in (m, ap (λ u. whole u m) x)
 
 at_fault : (n : ℕ) (f : Front) (x : FaultAt) → Err x ≡ next_answer n f → (m : ℕ) × (f ≡ faulty m) × (x ≡ record { number = m; at = n })
-at_fault n end x h = let z : ◌≡◌ {A = ℕ} 0 1 = cc in absurd (omega arith)
+at_fault n end x h = absurd cc
 at_fault n (faulty m) x h = let e : x ≡ record { number = m; at = n } = cc in (m, refl, e)
-at_fault n (whole e m) x h = let z : ◌≡◌ {A = ℕ} 0 1 = cc in absurd (omega arith)
+at_fault n (whole e m) x h = absurd cc
 
 module _ {C : Type 0} (r : Reading C) where
   -- the file from the bytes rest on, by what stands there

@@ -1,5 +1,5 @@
 -- What an accepted find answered, and what it left in the list of places.
-use Rattle.std.proofs.Common.{◌≡◌, ℕ, ◌≤◌, min, List, length, take, Ok, ap, ◌∙◌, arith}
+use Rattle.std.proofs.Common.{◌≡◌, ℕ, min, List, length, take, Ok, ap, ◌∙◌, arith}
 use Rattle.grids.specs.declared.Found.{Found}
 use Rattle.grids.specs.declared.Position.{Position}
 use Rattle.grids.specs.Kinds.{Kind}
