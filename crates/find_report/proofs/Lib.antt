@@ -1,3 +1,1 @@
-pub mod Found
-pub mod Tiles
-pub mod Files
+pub mod Searching
