@@ -4,7 +4,7 @@
 ghost use Rattle.std.specs.Prelude.{◌≡◌, IfOk, Some, string_bytes};
 ghost use Rattle.lines.specs.Rendering.{rendered, page};
 
-use std::alloc::Global;
+use std::alloc::{AllocError, Global};
 use std::fmt;
 
 /// A line of output.
@@ -36,6 +36,7 @@ pub enum Line {
     },
     /// The number of the refusal of a tile that was not entered.
     Refused {
+        // Users know refusals by number, and four refusals share one.
         number: u8,
     },
     /// The size of a draft in which no tile of the book was found.
@@ -51,6 +52,7 @@ pub enum Line {
     },
     /// A fault of the file, and the byte where its record begins.
     Fault {
+        // As in Refused.
         number: u8,
         at: usize,
     },
@@ -63,28 +65,28 @@ impl fmt::Display for Line {
 
     fn fmt<W: fmt::Write>(&self, f: &mut fmt::Formatter<W>) -> fmt::Result {
         match *self {
-            Line::Place { tile, row, col } => write!(f, "{tile} {row} {col}\n"),
+            Line::Place { tile, row, col } => writeln!(f, "{tile} {row} {col}"),
             Line::Tile {
                 tile,
                 places,
                 looks,
-            } => write!(f, "tile {tile} places {places} looks {looks}\n"),
-            Line::Draft { rows, cols, tiles } => write!(f, "draft {rows} {cols} tiles {tiles}\n"),
-            Line::Entered { rows, cols, number } => write!(f, "tile {rows} {cols} at {number}\n"),
-            Line::Refused { number } => write!(f, "refused {number}\n"),
-            Line::Passed { rows, cols } => write!(f, "draft {rows} {cols} passed\n"),
-            Line::Stopped { rows, cols, tiles } => write!(
+            } => writeln!(f, "tile {tile} places {places} looks {looks}"),
+            Line::Draft { rows, cols, tiles } => writeln!(f, "draft {rows} {cols} tiles {tiles}"),
+            Line::Entered { rows, cols, number } => writeln!(f, "tile {rows} {cols} at {number}"),
+            Line::Refused { number } => writeln!(f, "refused {number}"),
+            Line::Passed { rows, cols } => writeln!(f, "draft {rows} {cols} passed"),
+            Line::Stopped { rows, cols, tiles } => writeln!(
                 f,
-                "draft {rows} {cols} stopped {tiles}\n"
+                "draft {rows} {cols} stopped {tiles}"
             ),
-            Line::Fault { number, at } => write!(f, "fault {number} at {at}\n"),
-            Line::TooLong => write!(f, "too long\n"),
+            Line::Fault { number, at } => writeln!(f, "fault {number} at {at}"),
+            Line::TooLong => writeln!(f, "too long"),
         }
     }
 }
 
 /// The text of some lines.
-pub fn render(heap: Global, lines: &[Line]) -> Result<String, fmt::Error>
+pub fn render(heap: Global, lines: &[Line]) -> Result<String, AllocError>
     ensures { IfOk result (λ s. string_bytes s ≡ page lines.now) }
 {
     let mut text = String::new(heap);
