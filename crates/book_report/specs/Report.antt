@@ -9,7 +9,8 @@ use Rattle.book.specs.Entering.{enter_answer, enter_state}
 use Rattle.book.specs.Judging.{found_in, judged}
 use Rattle.lines.specs.declared.Line.{Line}
 use Rattle.lines.specs.declared.Line.TheVariants.{Entered, Refused, Passed, Stopped}
-use Rattle.reports.specs.Reports.{place_line, numbered_lines, Telling, says, next, report}
+use Rattle.lines.specs.Rendering.{page}
+use Rattle.reports.specs.Reports.{place_line, numbered_lines, Telling, says, next, report as report_from}
 
 -- what enter answered for a tile of so many rows and columns
 abbrev pub enter_line : ℕ → ℕ → Result ℕ ℕ → Line
@@ -39,7 +40,16 @@ module _ {C : Type 0} where
     draft_state = λ s g. judged k g s;
   }
 
+  -- the lines of an input, from a new book and the store cs
+  abbrev pub report : Kind C → Reading C → List C → List ℕ → List Line
+  report k r cs bs = report_from (says (telling k) r) (next (telling k) r) r (empty cs) bs
+
 -- the lines are the report of the input from a new book and a store of 4,096 cells, whatever these are, and the places in it are exactly the places of each tile
 pub record Answers {C : Type 0} (k : Kind C) (r : Reading C) (bs : List ℕ) (ls : List Line) : Type 0 where
-  pub lines : (store : List C) → length store ≡ 4096 → ls ≡ report (says (telling k) r) (next (telling k) r) r (empty store) bs
+  pub lines : (store : List C) → length store ≡ 4096 → ls ≡ report k r store bs
+  pub exact : (g : Grid C) (t : Tile C) → Valid t → Exact k g t
+
+-- the text is what is printed of such lines
+pub record Prints {C : Type 0} (k : Kind C) (r : Reading C) (bs text : List ℕ) : Type 0 where
+  pub text_is : (store : List C) → length store ≡ 4096 → text ≡ page (report k r store bs)
   pub exact : (g : Grid C) (t : Tile C) → Valid t → Exact k g t

@@ -2,19 +2,20 @@
 //! every engine.
 #![tactic(auto)]
 
-ghost use Rattle.std.specs.Prelude.{◌≡◌, [], ◌∷◌, ◌++◌, IfOk, OnOk};
+ghost use Rattle.std.specs.Prelude.{◌≡◌, [], ◌∷◌, ◌++◌, IfOk, OnOk, string_bytes};
+ghost use Rattle.grids.specs.Refusals.{numbered};
 ghost use Rattle.book.specs.Models.{Held, held, Stored};
 ghost use Rattle.book.specs.Entering.{enter_answer, enter_state};
 ghost use Rattle.reports.specs.Reports.{numbered_lines};
 ghost use Rattle.reports.specs.Tiles.{shown};
-ghost use Rattle.book_report.specs.Report.{Answers, enter_line, verdict_line, place_lines, telling};
+ghost use Rattle.book_report.specs.Report.{Answers, Prints, enter_line, verdict_line, place_lines, telling};
 
 use book::Book;
 use cells::Cell;
 use drafts::Draft;
 use engine::Engine;
-use grids::Position;
-use lines::Line;
+use grids::{Position, Refusal};
+use lines::{Line, render};
 use reports::{FileTile, Report, WorkTable, push_places, report_file};
 use std::alloc::{AllocError, Global};
 
@@ -27,14 +28,25 @@ pub fn book_report<C: Cell + Clone + Default, E: Engine<C>>(
 ) -> Result<Vec<Line>, AllocError>
     ensures { IfOk result (λ v. Answers C.Cell.kind C.Cell.reading input.now v.items) }
 {
-    let store = vec![in heap; C::default(); 4096]?;
-    let mut desk = BookReport {
+    let mut report = BookReport {
         engine,
         work: [0; 12288],
         book: Book::new(),
-        store,
+        store: vec![in heap; C::default(); 4096]?,
     };
-    report_file(heap, &mut desk, input)
+    report_file(heap, &mut report, input)
+}
+
+/// The text of that report.
+pub fn book_text<C: Cell + Clone + Default, E: Engine<C>>(
+    heap: Global,
+    engine: &E,
+    input: &[u8],
+) -> Result<String, AllocError>
+    ensures { IfOk result (λ s. Prints C.Cell.kind C.Cell.reading input.now (string_bytes s)) }
+{
+    let lines = book_report(heap, engine, input)?;
+    render(heap, lines.as_slice())
 }
 
 // A book with its store, and the engine with its work table that looks over drafts by it.
@@ -60,17 +72,8 @@ impl<'e, C: Cell, E: Engine<C>> Report<C> for BookReport<'e, C, E> {
         ensures state { OnOk result (held self.new.book self.new.store.items ≡ enter_state C.Cell.kind (held self.old.book self.old.store.items) (shown tile)) }
     {
         let view = tile.view();
-        let line = match self.book.enter(self.store.as_mut_slice(), &view) {
-            Ok(number) => Line::Entered {
-                rows: view.rows,
-                cols: view.cols,
-                number,
-            },
-            Err(refusal) => Line::Refused {
-                number: refusal.number(),
-            },
-        };
-        lines.push(line)?;
+        let answer = self.book.enter(self.store.as_mut_slice(), &view);
+        lines.push(enter_line(view.rows, view.cols, answer))?;
         Ok(())
     }
 
@@ -114,6 +117,18 @@ impl<'e, C: Cell, E: Engine<C>> BookReport<'e, C, E> {
             push_places(n, &list[..found.places.min(list.len())], lines)?;
         }
         Ok(())
+    }
+}
+
+// What a tile's size and the answer of enter say.
+fn enter_line(rows: usize, cols: usize, answer: Result<usize, Refusal>) -> Line
+    ensures { result ≡ enter_line rows cols (numbered answer) }
+{
+    match answer {
+        Ok(number) => Line::Entered { rows, cols, number },
+        Err(refusal) => Line::Refused {
+            number: refusal.number(),
+        },
     }
 }
 

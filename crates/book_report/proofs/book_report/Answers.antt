@@ -1,15 +1,15 @@
-use Rattle.std.proofs.Common.{◌≡◌, length, ap, ◌∙◌, sym, arith, rules}
+use Rattle.std.proofs.Common.{◌≡◌, length, ap, ◌∙◌, sym, arith}
 use Rattle.std.proofs.lemmas.Result.{IfOk-weaker}
 use Rattle.grids.proofs.Exactly.{exactly}
-use Rattle.book.specs.Models.{held, empty, cut}
+use Rattle.book.specs.Models.{empty, cut}
 use Rattle.book_report.proofs.Stores.{report_alike}
 use Rattle.book_report.proofs.book_report.Goals as goal
 
 pub returns : goal.returns
 returns g c =
     let k = g.C.Cell.kind in
-    let cs = c.in_ok-store.store.items in
-    let long : length cs ≡ 4096 = omega (arith, c.in_ok-store.ensures.len) in
+    let cs = c.in_ok-vec.field-0.items in
+    let long : length cs ≡ 4096 = omega (arith, c.in_ok-vec.ensures.len) in
     IfOk-weaker c.report_file.result _ _
     (λ v h. record {
       lines = λ store l. h ∙ report_alike k g.C.Cell.reading _ (empty store) c.args.input.now (record { tiles = ap (λ ss. cut ss cs) c.new.ensures.tiles; long = long ∙ sym l });

@@ -1,5 +1,5 @@
 use Rattle.std.proofs.Common.{◌≡◌, ◌<◌, length, get_or, sym, ap, ◌∙◌, arith}
-use Rattle.grids.specs.Refusals.{numbered, numbered_by}
+use Rattle.grids.specs.Refusals.{numbered}
 use Rattle.engine.specs.Views.{viewed}
 use Rattle.book.specs.Models.{sizes, held, no_tile}
 use Rattle.book.proofs.Cuts.{length_cut}
