@@ -1,11 +1,10 @@
-use Rattle.std.proofs.Common.{◌≡◌, [], ◌∷◌, ◌++◌, vec_items, length, sym, ap, ap₂, ◌∙◌, append_assoc, arith}
+use Rattle.std.proofs.Common.{◌≡◌, [], ◌∷◌, ◌++◌, vec_items, sym, ap, ap₂, ◌∙◌, append_assoc, arith, rules}
 use Rattle.std.proofs.lemmas.List.{append-nil}
-use Rattle.grids.specs.Refusals.{numbered}
 use Rattle.book.specs.Models.{held}
 use Rattle.book.specs.Judging.{found_in}
 use Rattle.reports.specs.Reports.{numbered_lines}
 use Rattle.book_report.specs.Report.{verdict_line, place_lines}
-use Rattle.book_report.proofs.Pushing.{found_is, tiles_kept, no_lines}
+use Rattle.book_report.proofs.Pushing.{no_lines}
 use Rattle.book_report.proofs.BookReportReport.draft.Goals as goal
 use Rattle.book_report.proofs.BookReportReport.draft.Goals.{then-found-gt0+in_ok-push_tiles, else-found-gt0}
 
@@ -16,17 +15,14 @@ returns-clause-lines g c =
     let b = c.args.self.now in
     let s = held b.book b.store.items in
     let j = c.judge.ensures in
-    let ok = ap numbered (sym c.unwrap-found.ensures) in
-    let here = ap (held b.book) c.as_slice.ensures.value in
-    let w = length b.work in
-    let found : c.unwrap-found.result.found ≡ found_in k grid s.tiles = found_is k g.E.Engine.rule grid w here j.judges ok in
-    let after = tiles_kept k g.E.Engine.rule grid w here j.judges ok in
+    let found : c.unwrap-found.result.found ≡ found_in k grid s.tiles = search rules in
+    let after : (held c.judge.new.self b.store.items).tiles ≡ s.tiles = search rules in
     let lines = numbered_lines (place_lines k grid) 0 s.tiles in
     let base = vec_items c.args.lines.now in
     let so : (vec_items c.if-found-gt0.lines ≡ base ++ lines) × ((g.D.Draft.shows c.if-found-gt0.draft).grid ≡ grid) =
     elim c.if-found-gt0.branch [
       | then-found-gt0+in_ok-push_tiles w ↦ (
-        ap (λ l. vec_items l) w.lines-is ∙ (w.in_ok-push_tiles.ensures.lines ∙ ap₂ (λ h ts. base ++ numbered_lines (place_lines k h) 0 ts) j.same (ap (λ cs. (held c.judge.new.self cs).tiles) (sym c.as_slice.ensures.value) ∙ after)),
+        ap (λ l. vec_items l) w.lines-is ∙ (w.in_ok-push_tiles.ensures.lines ∙ ap₂ (λ h ts. base ++ numbered_lines (place_lines k h) 0 ts) j.same after),
         ap (λ d. (g.D.Draft.shows d).grid) w.draft-is ∙ (w.in_ok-push_tiles.ensures.same ∙ j.same),
       )
       | else-found-gt0 w ↦ (
