@@ -1,6 +1,5 @@
 //! Record files with a fault, and the order in which the reader checks.
-use crate::reports::{K, verify_print};
-use crate::table::{Case, verify_all};
+use crate::reports::{K, printed};
 use cells::Lift;
 use std::process::Abort;
 use std::test::Fail;
@@ -108,18 +107,20 @@ static FAULTS: [Faulty; 5] = [
     },
 ];
 
-impl Case for Faulty {
-    fn verify(&self, rt: &(impl Abort + AllocGlobal), at: &str) -> Result<(), Fail> {
-        for (i, file) in self.files.iter().enumerate() {
-            let at = format!(in rt.alloc(); "{at}, file {i}")?;
-            verify_print::<Lift>(rt, at.as_str(), b"", *file, self.first)?;
-            verify_print::<Lift>(rt, at.as_str(), K, *file, self.after_k)?;
-        }
-        Ok(())
+fn verify_fault(rt: &(impl Abort + AllocGlobal), at: usize, fault: &Faulty) -> Result<(), Fail> {
+    for (j, file) in fault.files.iter().enumerate() {
+        let first = printed::<Lift>(rt.alloc(), b"", file)?;
+        assert_eq!(rt; first.as_str(), fault.first, "case {at}, file {j}");
+        let after_k = printed::<Lift>(rt.alloc(), K, file)?;
+        assert_eq!(rt; after_k.as_str(), fault.after_k, "case {at}, file {j}");
     }
+    Ok(())
 }
 
 #[test]
 fn faults_tell_their_number_and_the_byte_of_their_record(rt: HostRuntime) -> Result<(), Fail> {
-    verify_all(&rt, &FAULTS)
+    for (i, fault) in FAULTS.iter().enumerate() {
+        verify_fault(&rt, i, fault)?;
+    }
+    Ok(())
 }

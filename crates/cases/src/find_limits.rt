@@ -1,9 +1,7 @@
 //! Which tiles find takes, what it answers, and what it leaves in the list of places.
-use crate::table::{Case, verify_all};
 use cells::{Cell, Lift, Thread};
-use drafts::OverCells;
 use engine::TileView;
-use grids::{Position, Refusal};
+use grids::{Found, Position, Refusal};
 use plain::find;
 use sheets::CellSheet;
 use std::process::Abort;
@@ -12,13 +10,13 @@ use std::test::Fail;
 /// A find in a draft, where the draft and the tile have one cell everywhere: rows and columns of the
 /// draft; rows, columns and count of cells of the tile; the words of the work table; the answer,
 /// places and looks; and what a list for two then holds, which held M in both entries.
-#[derive(Clone, Copy)]
+#[derive(Drop)]
 struct Find(
     (usize, usize),
     (usize, usize, usize),
     usize,
     Result<(usize, u64), Refusal>,
-    (Position, Position),
+    [Position; 2],
 );
 
 /// Why a find in a draft of 40 by 40 is refused: rows, columns and count of cells of the tile, the
@@ -37,33 +35,33 @@ const AT10: Position = Position { row: 1, col: 0 };
 
 static FINDS: [Find; 13] = [
     // three places, two, one and none
-    Find((1, 4), (1, 2, 2), 12288, Ok((3, 6)), (AT00, AT01)),
-    Find((4, 1), (2, 1, 2), 12288, Ok((3, 6)), (AT00, AT10)),
-    Find((2, 1), (1, 1, 1), 12288, Ok((2, 2)), (AT00, AT10)),
-    Find((3, 4), (3, 4, 12), 12288, Ok((1, 12)), (AT00, M)),
-    Find((3, 4), (1, 5, 5), 12288, Ok((0, 0)), (M, M)),
-    Find((3, 4), (4, 1, 4), 12288, Ok((0, 0)), (M, M)),
+    Find((1, 4), (1, 2, 2), 12288, Ok((3, 6)), [AT00, AT01]),
+    Find((4, 1), (2, 1, 2), 12288, Ok((3, 6)), [AT00, AT10]),
+    Find((2, 1), (1, 1, 1), 12288, Ok((2, 2)), [AT00, AT10]),
+    Find((3, 4), (3, 4, 12), 12288, Ok((1, 12)), [AT00, M]),
+    Find((3, 4), (1, 5, 5), 12288, Ok((0, 0)), [M, M]),
+    Find((3, 4), (4, 1, 4), 12288, Ok((0, 0)), [M, M]),
     // the smallest and the largest tiles
-    Find((1, 1), (1, 1, 1), 12288, Ok((1, 1)), (AT00, M)),
-    Find((1, 32), (1, 32, 32), 12288, Ok((1, 32)), (AT00, M)),
-    Find((33, 1), (32, 1, 32), 12288, Ok((2, 64)), (AT00, AT10)),
-    Find((33, 33), (32, 32, 1024), 12288, Ok((4, 4096)), (AT00, AT01)),
+    Find((1, 1), (1, 1, 1), 12288, Ok((1, 1)), [AT00, M]),
+    Find((1, 32), (1, 32, 32), 12288, Ok((1, 32)), [AT00, M]),
+    Find((33, 1), (32, 1, 32), 12288, Ok((2, 64)), [AT00, AT10]),
+    Find((33, 33), (32, 32, 1024), 12288, Ok((4, 4096)), [AT00, AT01]),
     // a word more than is needed
-    Find((33, 33), (32, 32, 1024), 12289, Ok((4, 4096)), (AT00, AT01)),
+    Find((33, 33), (32, 32, 1024), 12289, Ok((4, 4096)), [AT00, AT01]),
     // the largest drafts
     Find(
         (32, 2048),
         (32, 32, 1024),
         12288,
         Ok((2017, 2065408)),
-        (AT00, AT01),
+        [AT00, AT01],
     ),
     Find(
         (2048, 2048),
         (1, 1, 1),
         12288,
         Ok((4194304, 4194304)),
-        (AT00, AT01),
+        [AT00, AT01],
     ),
 ];
 
@@ -91,26 +89,9 @@ static REFUSED: [Refused; 17] = [
     Refused((1, 33, 1), 12287, Refusal::TileSize),
 ];
 
-// Finds a tile in a cell sheet; answers places and looks.
-fn found<C: Cell>(
-    draft: &TileView<'_, C>,
-    tile: &TileView<'_, C>,
-    work: &mut [u32],
-    list: &mut [Position],
-) -> Result<(usize, u64), Refusal> {
-    let made: Result<CellSheet<C>, Refusal> = <CellSheet<'_, _> as OverCells<'_, _>>::over(
-        draft.rows,
-        draft.cols,
-        draft.cells,
-    );
-    let mut sheet = made?;
-    let answer = find(&mut sheet, tile, work, list)?;
-    Ok((answer.places, answer.looks))
-}
-
 fn verify_find<C: Cell + Clone + Default>(
     rt: &(impl Abort + AllocGlobal),
-    at: &str,
+    at: usize,
     case: &Find,
 ) -> Result<(), Fail> {
     let heap = rt.alloc();
@@ -118,43 +99,34 @@ fn verify_find<C: Cell + Clone + Default>(
     let area = vec![in heap; C::default(); height.saturating_mul(*width)]?;
     let cells = vec![in heap; C::default(); *count]?;
     let mut work = vec![in heap; 7u32; *words]?;
-    let draft = TileView {
-        rows: *height,
-        cols: *width,
-        cells: area.as_slice(),
-    };
+    let mut draft = CellSheet::over(*height, *width, area.as_slice())?;
     let tile = TileView {
         rows: *rows,
         cols: *cols,
         cells: cells.as_slice(),
     };
     let mut list = [M; 2];
-    let got = found(&draft, &tile, work.as_mut_slice(), &mut list);
-    let [first, second] = list;
-    assert!(rt; got == *answer && (first, second) == *listed, "{at}");
+    let found = find(&mut draft, &tile, work.as_mut_slice(), &mut list);
+    let got = found.map(|Found { places, looks }| (places, looks));
+    assert!(rt; got == *answer && list == *listed, "case {at}");
     Ok(())
-}
-
-impl Case for Find {
-    fn verify(&self, rt: &(impl Abort + AllocGlobal), at: &str) -> Result<(), Fail> {
-        verify_find::<Lift>(rt, at, self)?;
-        verify_find::<Thread>(rt, at, self)
-    }
-}
-
-impl Case for Refused {
-    fn verify(&self, rt: &(impl Abort + AllocGlobal), at: &str) -> Result<(), Fail> {
-        let Refused(tile, words, refusal) = self;
-        Find((40, 40), *tile, *words, Err(*refusal), (M, M)).verify(rt, at)
-    }
 }
 
 #[test]
 fn finds_answer_all_places_and_list_those_that_fit(rt: HostRuntime) -> Result<(), Fail> {
-    verify_all(&rt, &FINDS)
+    for (i, case) in FINDS.iter().enumerate() {
+        verify_find::<Lift>(&rt, i, case)?;
+        verify_find::<Thread>(&rt, i, case)?;
+    }
+    Ok(())
 }
 
 #[test]
 fn refused_finds_leave_the_list(rt: HostRuntime) -> Result<(), Fail> {
-    verify_all(&rt, &REFUSED)
+    for (i, Refused(tile, words, refusal)) in REFUSED.iter().enumerate() {
+        let case = Find((40, 40), *tile, *words, Err(*refusal), [M, M]);
+        verify_find::<Lift>(&rt, i, &case)?;
+        verify_find::<Thread>(&rt, i, &case)?;
+    }
+    Ok(())
 }

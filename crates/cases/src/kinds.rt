@@ -1,5 +1,4 @@
 //! The two kinds of cells, reading cells into memory, and the numbers of refusals.
-use crate::table::{Case, verify_all};
 use cells::{Lift, Thread};
 use grids::Refusal;
 use readings::read_cells;
@@ -115,97 +114,53 @@ fn thread(parts: (u16, u8)) -> Thread {
     Thread { colour, ply }
 }
 
-impl Case for Lifts {
-    fn verify(&self, rt: &(impl Abort + AllocGlobal), at: &str) -> Result<(), Fail> {
-        let Lifts(x, y, order) = self;
-        let same = x.equals(*y) == (*order == Ordering::Equal);
-        assert!(rt;
-            same && x.precedes(*y) == (*order == Ordering::Less),
-            "{at}"
-        );
-        Ok(())
-    }
-}
-
-impl Case for Threads {
-    fn verify(&self, rt: &(impl Abort + AllocGlobal), at: &str) -> Result<(), Fail> {
-        let Threads(x, y, order) = self;
-        let (x, y) = (thread(*x), thread(*y));
-        let same = x.equals(y) == (*order == Ordering::Equal);
-        assert!(rt; same && x.precedes(y) == (*order == Ordering::Less), "{at}");
-        Ok(())
-    }
-}
-
-impl Case for LiftBytes {
-    fn verify(&self, rt: &(impl Abort + AllocGlobal), at: &str) -> Result<(), Fail> {
-        let LiftBytes(bytes, lift) = self;
-        assert!(rt; Lift::parse(*bytes) == *lift, "{at}");
-        Ok(())
-    }
-}
-
-impl Case for ThreadBytes {
-    fn verify(&self, rt: &(impl Abort + AllocGlobal), at: &str) -> Result<(), Fail> {
-        let ThreadBytes(bytes, parts) = self;
-        let read = match Thread::parse(*bytes) {
-            Some(x) => Some((x.colour, x.ply)),
-            None => None,
-        };
-        assert!(rt; read == *parts, "{at}");
-        Ok(())
-    }
-}
-
-impl Case for Coded {
-    fn verify(&self, rt: &(impl Abort + AllocGlobal), at: &str) -> Result<(), Fail> {
-        let Coded(colour, code) = self;
-        assert!(rt; thread((*colour, 9)).code() == *code, "{at}");
-        Ok(())
-    }
-}
-
-impl Case for Filling {
-    fn verify(&self, rt: &(impl Abort + AllocGlobal), at: &str) -> Result<(), Fail> {
-        let Filling(count, bytes, answer, after) = self;
-        let mut memory = [R; 3];
-        let got = read_cells::<Lift>(*count, *bytes, &mut memory);
-        assert!(rt; got == *answer && memory == *after, "{at}");
-        Ok(())
-    }
-}
-
-impl Case for Numbered {
-    fn verify(&self, rt: &(impl Abort + AllocGlobal), at: &str) -> Result<(), Fail> {
-        let Numbered(refusal, number) = self;
-        assert!(rt; refusal.number() == *number, "{at}");
-        Ok(())
+// Checks that each row of a table is met, and tells the number of the first that is not.
+fn verify_rows<T, F: Fn(&T) -> bool>(rt: &impl Abort, table: &[T], met: F)
+    requires { F.IsAlwaysCallable met }
+{
+    for (i, row) in table.iter().enumerate() {
+        assert!(rt; met(row), "case {i}");
     }
 }
 
 #[test]
-fn lifts_are_ordered_read_and_coded(rt: HostRuntime) -> Result<(), Fail> {
-    verify_all(&rt, &LIFTS)?;
-    verify_all(&rt, &LIFT_BYTES)?;
+fn lifts_are_ordered_read_and_coded(rt: HostRuntime) {
+    verify_rows(&rt, &LIFTS, |Lifts(x, y, order)| {
+        (x.equals(*y), x.precedes(*y)) == (order.is_eq(), order.is_lt())
+    });
+    verify_rows(&rt, &LIFT_BYTES, |LiftBytes(bytes, lift)| {
+        Lift::parse(bytes) == *lift
+    });
     assert!(rt; S.code() == 0 && R.code() == 1 && Lift::bytes() == 1);
-    Ok(())
 }
 
 #[test]
-fn threads_are_ordered_read_and_coded(rt: HostRuntime) -> Result<(), Fail> {
-    verify_all(&rt, &THREADS)?;
-    verify_all(&rt, &THREAD_BYTES)?;
-    verify_all(&rt, &THREAD_CODES)?;
+fn threads_are_ordered_read_and_coded(rt: HostRuntime) {
+    verify_rows(&rt, &THREADS, |Threads(x, y, order)| {
+        let (x, y) = (thread(*x), thread(*y));
+        (x.equals(y), x.precedes(y)) == (order.is_eq(), order.is_lt())
+    });
+    verify_rows(&rt, &THREAD_BYTES, |ThreadBytes(bytes, parts)| {
+        Thread::parse(bytes) == parts.map(thread)
+    });
+    verify_rows(&rt, &THREAD_CODES, |Coded(colour, code)| {
+        thread((*colour, 9)).code() == *code
+    });
     assert!(rt; Thread::bytes() == 3);
-    Ok(())
 }
 
 #[test]
-fn cells_fill_the_front_of_the_memory_or_nothing(rt: HostRuntime) -> Result<(), Fail> {
-    verify_all(&rt, &FILLINGS)
+fn cells_fill_the_front_of_the_memory_or_nothing(rt: HostRuntime) {
+    verify_rows(&rt, &FILLINGS, |Filling(count, bytes, answer, after)| {
+        let mut memory = [R; 3];
+        let got = read_cells::<Lift>(*count, bytes, &mut memory);
+        got == *answer && memory == *after
+    });
 }
 
 #[test]
-fn refusals_have_their_numbers(rt: HostRuntime) -> Result<(), Fail> {
-    verify_all(&rt, &NUMBERS)
+fn refusals_have_their_numbers(rt: HostRuntime) {
+    verify_rows(&rt, &NUMBERS, |Numbered(refusal, number)| {
+        refusal.number() == *number
+    });
 }

@@ -12,5 +12,3 @@ mod kinds;
 mod reports;
 #[cfg(test)]
 mod sheet_limits;
-#[cfg(test)]
-mod table;

@@ -1,21 +1,14 @@
 //! Record files, and what lookfor prints of them.
-use crate::table::{Case, verify_all};
 use cells::{Cell, Lift, Thread};
 use find_report::find_report;
 use lines::render;
 use plain::Plain;
+use std::alloc::{AllocError, Global};
 use std::process::Abort;
 use std::test::Fail;
 
-/// A kind of cells.
-enum Kind {
-    Lifts,
-    Threads,
-}
-
-/// The kind of a file, the file, and what is printed of it.
+/// A file, and what is printed of it.
 struct Report {
-    kind: Kind,
     file: &'static [u8],
     text: &'static str,
 }
@@ -26,114 +19,98 @@ struct Long(&'static [u8], usize, &'static str);
 /// The tile `##`, and the draft K after it: 26 bytes.
 pub(crate) const K: &[u8] = b"TL\x01\x00\x02\x00##DR\x03\x00\x04\x00##...##...##";
 
-static REPORTS: [Report; 19] = [
+static LIFT_REPORTS: [Report; 11] = [
     Report {
-        kind: Kind::Lifts,
         file: b"",
         text: "",
     },
     Report {
-        kind: Kind::Lifts,
         file: K,
         text: "0 0 0\n0 1 1\n0 2 2\ntile 0 places 3 looks 14\ndraft 3 4 tiles 1\n",
     },
     // a tile of 1 by 5, and a tile of 2 by 1, in K
     Report {
-        kind: Kind::Lifts,
         file: b"TL\x01\x00\x05\x00#####TL\x02\x00\x01\x00##DR\x03\x00\x04\x00##...##...##",
         text: "tile 0 places 0 looks 0\n1 0 1\n1 1 2\ntile 1 places 2 looks 12\ndraft 3 4 tiles 2\n",
     },
     // a tile of 4 by 1 in K
     Report {
-        kind: Kind::Lifts,
         file: b"TL\x04\x00\x01\x00####DR\x03\x00\x04\x00##...##...##",
         text: "tile 0 places 0 looks 0\ndraft 3 4 tiles 1\n",
     },
     // places that overlap
     Report {
-        kind: Kind::Lifts,
         file: b"TL\x01\x00\x02\x00##DR\x01\x00\x04\x00####",
         text: "0 0 0\n0 0 1\n0 0 2\ntile 0 places 3 looks 6\ndraft 1 4 tiles 1\n",
     },
     // a tile alone
     Report {
-        kind: Kind::Lifts,
         file: b"TL\x01\x00\x02\x00##",
         text: "",
     },
     // a draft before any tile
     Report {
-        kind: Kind::Lifts,
         file: b"DR\x01\x00\x04\x00####",
         text: "draft 1 4 tiles 0\n",
     },
     // two equal tiles
     Report {
-        kind: Kind::Lifts,
         file: b"TL\x01\x00\x01\x00#TL\x01\x00\x01\x00#DR\x02\x00\x01\x00.#",
         text: "0 1 0\ntile 0 places 1 looks 2\n1 1 0\ntile 1 places 1 looks 2\ndraft 2 1 tiles 2\n",
     },
     // a tile after the draft
     Report {
-        kind: Kind::Lifts,
         file: b"TL\x01\x00\x01\x00#DR\x01\x00\x01\x00#TL\x01\x00\x01\x00.",
         text: "0 0 0\ntile 0 places 1 looks 1\ndraft 1 1 tiles 1\n",
     },
     // a tile between drafts
     Report {
-        kind: Kind::Lifts,
         file: b"DR\x01\x00\x01\x00.TL\x01\x00\x01\x00.DR\x01\x00\x01\x00.DR\x01\x00\x01\x00#",
         text: "draft 1 1 tiles 0\n0 0 0\ntile 0 places 1 looks 1\ndraft 1 1 tiles 1\ntile 0 places 0 looks 1\ndraft 1 1 tiles 1\n",
     },
     // numbers of two digits
     Report {
-        kind: Kind::Lifts,
         file: b"TL\x01\x00\x01\x00#DR\x01\x00\x0c\x00.........##.",
         text: "0 0 9\n0 0 10\ntile 0 places 2 looks 12\ndraft 1 12 tiles 1\n",
     },
+];
+
+static THREAD_REPORTS: [Report; 8] = [
     // one colour with two plies
     Report {
-        kind: Kind::Threads,
         file: b"TL\x01\x00\x01\x00\x05\x00\x01DR\x01\x00\x02\x00\x05\x00\x02\x05\x00\x01",
         text: "0 0 1\ntile 0 places 1 looks 2\ndraft 1 2 tiles 1\n",
     },
     // the colours 1 and 257
     Report {
-        kind: Kind::Threads,
         file: b"TL\x01\x00\x01\x00\x01\x00\x00DR\x01\x00\x02\x00\x01\x01\x00\x01\x00\x00",
         text: "0 0 1\ntile 0 places 1 looks 2\ndraft 1 2 tiles 1\n",
     },
     // a tile of 2 by 1, with the bytes of marks in its cells
     Report {
-        kind: Kind::Threads,
         file: b"TL\x02\x00\x01\x00##.DR.DR\x03\x00\x01\x00##.##.DR.",
         text: "0 1 0\ntile 0 places 1 looks 4\ndraft 3 1 tiles 1\n",
     },
     // the cells are cut within a cell
     Report {
-        kind: Kind::Threads,
         file: b"TL\x01\x00\x01\x00\x05\x00",
         text: "fault 11 at 0\n",
     },
     Report {
-        kind: Kind::Threads,
         file: b"DR\x01\x00\x02\x00\x05\x00\x02\x05\x00",
         text: "fault 11 at 0\n",
     },
     Report {
-        kind: Kind::Threads,
         file: b"DR\x01\x00\x01\x00\x05\x00\x01DR\x01\x00\x02\x00\x05\x00\x02\x05",
         text: "draft 1 1 tiles 0\nfault 11 at 9\n",
     },
     // a file of lifts
     Report {
-        kind: Kind::Threads,
         file: K,
         text: "fault 10 at 12\n",
     },
     // no rows, and any bytes
     Report {
-        kind: Kind::Threads,
         file: b"DR\x00\x00\x01\x00XXX",
         text: "fault 9 at 0\n",
     },
@@ -156,46 +133,41 @@ static LONG_FILES: [Long; 11] = [
     Long(b"TL\x20\x00\x20\x00", 1023, "fault 11 at 0\n"),
 ];
 
-/// Checks what is printed of a file that begins with one part and ends with another.
-pub(crate) fn verify_print<C: Cell + Clone + Default>(
-    rt: &(impl Abort + AllocGlobal),
-    at: &str,
+/// What is printed of a file that begins with one part and ends with another.
+pub(crate) fn printed<C: Cell + Clone + Default>(
+    heap: Global,
     front: &[u8],
     rest: &[u8],
-    text: &str,
-) -> Result<(), Fail> {
-    let heap = rt.alloc();
+) -> Result<String, AllocError> {
     let mut file = front.to_vec(heap)?;
     file.extend_from_slice(rest)?;
     let lines = find_report::<C, Plain>(heap, &Plain, file.as_slice())?;
-    let printed = render(heap, lines.as_slice())?;
-    assert_eq!(rt; printed.as_str(), text, "{at}");
+    render(heap, lines.as_slice())
+}
+
+fn verify_reports<C: Cell + Clone + Default>(
+    rt: &(impl Abort + AllocGlobal),
+    reports: &[Report],
+) -> Result<(), Fail> {
+    for (i, report) in reports.iter().enumerate() {
+        let text = printed::<C>(rt.alloc(), b"", report.file)?;
+        assert_eq!(rt; text.as_str(), report.text, "case {i}");
+    }
     Ok(())
-}
-
-impl Case for Report {
-    fn verify(&self, rt: &(impl Abort + AllocGlobal), at: &str) -> Result<(), Fail> {
-        match self.kind {
-            Kind::Lifts => verify_print::<Lift>(rt, at, b"", self.file, self.text),
-            Kind::Threads => verify_print::<Thread>(rt, at, b"", self.file, self.text),
-        }
-    }
-}
-
-impl Case for Long {
-    fn verify(&self, rt: &(impl Abort + AllocGlobal), at: &str) -> Result<(), Fail> {
-        let Long(front, count, text) = self;
-        let rest = vec![in rt.alloc(); b'#'; *count]?;
-        verify_print::<Lift>(rt, at, *front, rest.as_slice(), *text)
-    }
 }
 
 #[test]
 fn files_print_their_lines(rt: HostRuntime) -> Result<(), Fail> {
-    verify_all(&rt, &REPORTS)
+    verify_reports::<Lift>(&rt, &LIFT_REPORTS)?;
+    verify_reports::<Thread>(&rt, &THREAD_REPORTS)
 }
 
 #[test]
 fn files_and_records_are_read_up_to_their_limits(rt: HostRuntime) -> Result<(), Fail> {
-    verify_all(&rt, &LONG_FILES)
+    for (i, Long(front, count, text)) in LONG_FILES.iter().enumerate() {
+        let rest = vec![in rt.alloc(); b'#'; *count]?;
+        let got = printed::<Lift>(rt.alloc(), front, rest.as_slice())?;
+        assert_eq!(rt; got.as_str(), *text, "case {i}");
+    }
+    Ok(())
 }

@@ -1,10 +1,8 @@
 //! Of which sizes, cells and bytes a sheet is made, and what it shows.
-use crate::table::{Case, verify_all};
 use cells::{Cell, Lift, Thread};
-use drafts::{Draft, OverBytes, OverCells};
+use drafts::Draft;
 use grids::Refusal;
 use sheets::{ByteSheet, CellSheet};
-use std::alloc::{AllocError, Global};
 use std::process::Abort;
 use std::test::Fail;
 
@@ -16,9 +14,6 @@ struct Bytes((usize, usize), &'static [u8], Option<Refusal>);
 
 /// A look at the draft `#..` over `..#`: row, column, and what is seen.
 struct Look(usize, usize, Option<Lift>);
-
-// The rows and columns of a sheet, and what a look at it shows.
-type Seen<C> = (usize, usize, Option<C>);
 
 const MOST: usize = usize::MAX;
 
@@ -80,102 +75,55 @@ static LOOKS: [Look; 12] = [
     Look(0, MOST, None),
 ];
 
-// Makes a cell sheet and looks at a position of it; answers its rows and columns and what is seen.
-fn seen_in_cells<C: Cell>(
-    size: (usize, usize),
-    cells: &[C],
-    row: usize,
-    col: usize,
-) -> Result<Seen<C>, Refusal> {
-    let made: Result<CellSheet<C>, Refusal> = <CellSheet<'_, _> as OverCells<'_, _>>::over(
-        size.0, size.1, cells,
-    );
-    let mut sheet = made?;
-    let cell = sheet.look(row, col);
-    Ok((sheet.rows(), sheet.cols(), cell))
-}
-
-// The same of a byte sheet.
-fn seen_in_bytes<C: Cell>(
-    size: (usize, usize),
-    bytes: &[u8],
-    row: usize,
-    col: usize,
-) -> Result<Seen<C>, Refusal> {
-    let made: Result<ByteSheet<C>, Refusal> = <ByteSheet<'_, _> as OverBytes<'_, _>>::over(
-        size.0, size.1, bytes,
-    );
-    let mut sheet = made?;
-    let cell = sheet.look(row, col);
-    Ok((sheet.rows(), sheet.cols(), cell))
-}
-
-// Why no sheet of either sort is made.
-fn refused<C: Cell + Clone + Default>(
-    heap: Global,
+fn verify_sheet<C: Cell + Clone + Default>(
+    rt: &(impl Abort + AllocGlobal),
+    at: usize,
     sheet: &Sheet,
-) -> Result<[Option<Refusal>; 2], AllocError> {
-    let Sheet(size, count, _) = sheet;
+) -> Result<(), Fail> {
+    let heap = rt.alloc();
+    let Sheet((rows, cols), count, refusal) = sheet;
     let cells = vec![in heap; C::default(); *count]?;
-    let bytes = vec![in heap; b'.'; count.saturating_mul(C::width())]?;
-    let over_cells = seen_in_cells(*size, cells.as_slice(), 0, 0);
-    let over_bytes = seen_in_bytes::<C>(*size, bytes.as_slice(), 0, 0);
-    Ok([over_cells.err(), over_bytes.err()])
+    let bytes = vec![in heap; b'.'; count.saturating_mul(C::BYTES)]?;
+    let over_cells = CellSheet::over(*rows, *cols, cells.as_slice());
+    let over_bytes = ByteSheet::<C>::over(*rows, *cols, bytes.as_slice());
+    assert!(rt; over_cells.err() == *refusal, "case {at}");
+    assert!(rt; over_bytes.err() == *refusal, "case {at}");
+    Ok(())
 }
 
-impl Case for Sheet {
-    fn verify(&self, rt: &(impl Abort + AllocGlobal), at: &str) -> Result<(), Fail> {
-        let Sheet(_, _, refusal) = self;
-        assert!(rt; refused::<Lift>(rt.alloc(), self)? == [*refusal; 2], "{at}");
-        assert!(rt;
-            refused::<Thread>(rt.alloc(), self)? == [*refusal; 2],
-            "{at}"
-        );
-        Ok(())
-    }
-}
-
-impl Case for Bytes {
-    fn verify(&self, rt: &(impl Abort + AllocGlobal), at: &str) -> Result<(), Fail> {
-        let Bytes(size, bytes, refusal) = self;
-        assert!(rt;
-            seen_in_bytes::<Lift>(*size, *bytes, 0, 0).err() == *refusal,
-            "{at}"
-        );
-        Ok(())
-    }
-}
-
-impl Case for Look {
-    fn verify(&self, rt: &(impl Abort + AllocGlobal), at: &str) -> Result<(), Fail> {
-        let Look(row, col, lift) = self;
-        let expected = Ok((2, 3, *lift));
-        assert!(rt;
-            seen_in_cells::<Lift>((2, 3), &CELLS, *row, *col) == expected,
-            "{at}"
-        );
-        assert!(rt;
-            seen_in_bytes::<Lift>((2, 3), b"#....#", *row, *col) == expected,
-            "{at}"
-        );
-        Ok(())
-    }
+fn verify_look<D: Draft<Cell = Lift>>(rt: &impl Abort, at: usize, sheet: &mut D, look: &Look) {
+    let Look(row, col, lift) = look;
+    let cell = sheet.look(*row, *col);
+    assert!(rt;
+        (sheet.rows(), sheet.cols(), cell) == (2, 3, *lift),
+        "case {at}"
+    );
 }
 
 #[test]
 fn sheets_are_made_up_to_their_limits(rt: HostRuntime) -> Result<(), Fail> {
-    verify_all(&rt, &SHEETS)
-}
-
-#[test]
-fn byte_sheets_are_made_of_whole_cells_that_read(rt: HostRuntime) -> Result<(), Fail> {
-    verify_all(&rt, &BYTES)?;
-    let cut = seen_in_bytes::<Thread>((1, 2), b"12345", 0, 0);
-    assert!(rt; cut.err() == Some(Refusal::DraftLength));
+    for (i, sheet) in SHEETS.iter().enumerate() {
+        verify_sheet::<Lift>(&rt, i, sheet)?;
+        verify_sheet::<Thread>(&rt, i, sheet)?;
+    }
     Ok(())
 }
 
 #[test]
+fn byte_sheets_are_made_of_whole_cells_that_read(rt: HostRuntime) {
+    for (i, Bytes((rows, cols), bytes, refusal)) in BYTES.iter().enumerate() {
+        let made = ByteSheet::<Lift>::over(*rows, *cols, bytes);
+        assert!(rt; made.err() == *refusal, "case {i}");
+    }
+    let cut = ByteSheet::<Thread>::over(1, 2, b"12345");
+    assert!(rt; cut.err() == Some(Refusal::DraftLength));
+}
+
+#[test]
 fn sheets_show_their_cells_inside_and_nothing_outside(rt: HostRuntime) -> Result<(), Fail> {
-    verify_all(&rt, &LOOKS)
+    for (i, look) in LOOKS.iter().enumerate() {
+        verify_look(&rt, i, &mut CellSheet::over(2, 3, &CELLS)?, look);
+        verify_look(&rt, i, &mut ByteSheet::over(2, 3, b"#....#")?, look);
+    }
+    Ok(())
 }

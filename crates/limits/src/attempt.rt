@@ -12,13 +12,10 @@ pub(crate) enum Outcome {
     TooLong,
 }
 
-impl Outcome {
-    /// Whether a call was accepted, whatever it answered.
-    pub(crate) fn of<T: Drop>(answer: Result<T, Refusal>) -> Outcome {
-        match answer {
-            Ok(_) => Outcome::Accepted,
-            Err(refusal) => Outcome::Refused(refusal),
-        }
+// A call is accepted whatever it answers.
+impl<T: Drop> From<Result<T, Refusal>> for Outcome {
+    fn from(answer: Result<T, Refusal>) -> Outcome {
+        answer.map_or_else(Outcome::Refused, |_| Outcome::Accepted)
     }
 }
 
@@ -26,10 +23,7 @@ impl fmt::Display for Outcome {
     fn fmt<W: fmt::Write>(&self, f: &mut fmt::Formatter<W>) -> fmt::Result {
         match *self {
             Outcome::Accepted => write!(f, "accepted"),
-            Outcome::Refused(refusal) => {
-                let number = refusal.number();
-                write!(f, "refused {number}")
-            }
+            Outcome::Refused(refusal) => write!(f, "refused {}", refusal.number()),
             Outcome::Count(count) => write!(f, "{count}"),
             Outcome::TooLong => write!(f, "too long"),
         }

@@ -1,5 +1,5 @@
 //! Books to try calls on.
-use anyhow::anyhow;
+use anyhow::Context;
 use book::Book;
 use cells::Cell;
 use engine::TileView;
@@ -8,11 +8,11 @@ use std::alloc::Global;
 
 // Enters the first cell of a row as a tile, then the first two, and so on.
 fn enter_fronts<C: Cell>(book: &mut Book, store: &mut [C], row: &[C]) -> Result<(), Refusal> {
-    for n in 0..row.len() {
+    for n in 1..=row.len() {
         let tile = TileView {
             rows: 1,
-            cols: n + 1,
-            cells: &row[0..n + 1],
+            cols: n,
+            cells: &row[..n],
         };
         book.enter(store, &tile)?;
     }
@@ -27,8 +27,8 @@ pub(crate) fn book_with<C: Cell + Clone + Default>(
 ) -> anyhow::Result<Book> {
     let row = vec![in heap; C::default(); tiles]?;
     let mut book = Book::new();
-    if enter_fronts(&mut book, store, row.as_slice()).is_err() {
-        return Err(anyhow!("a tile of the book was refused"));
-    }
+    enter_fronts(&mut book, store, row.as_slice())
+        .ok()
+        .context("a tile of the book was refused")?;
     Ok(book)
 }

@@ -48,7 +48,7 @@ impl Attempt for Enter {
             cols: *cols,
             cells: lent.as_slice(),
         };
-        Ok(Outcome::of(book.enter(store.as_mut_slice(), &tile)))
+        Ok(book.enter(store.as_mut_slice(), &tile).into())
     }
 }
 

@@ -1,9 +1,7 @@
 //! Finding a tile.
 use crate::attempt::{Attempt, Outcome, tell_all};
-use cells::{Cell, Lift};
-use drafts::OverCells;
+use cells::Lift;
 use engine::TileView;
-use grids::{Found, Position, Refusal};
 use plain::find;
 use sheets::CellSheet;
 use std::alloc::Global;
@@ -34,18 +32,6 @@ impl fmt::Display for Find {
     }
 }
 
-// Finds a tile in a draft of one row, with no list of places.
-fn found<C: Cell>(row: &[C], tile: &TileView<'_, C>, work: &mut [u32]) -> Result<Found, Refusal> {
-    let made: Result<CellSheet<C>, Refusal> = <CellSheet<'_, _> as OverCells<'_, _>>::over(
-        1,
-        row.len(),
-        row,
-    );
-    let mut draft = made?;
-    let mut none: [Position; 0] = [];
-    find(&mut draft, tile, work, &mut none)
-}
-
 impl Attempt for Find {
     fn outcome(&self, heap: Global) -> anyhow::Result<Outcome> {
         let Find((rows, cols), count, words) = self;
@@ -57,7 +43,10 @@ impl Attempt for Find {
             cells: cells.as_slice(),
         };
         let row = [Lift::default()];
-        Ok(Outcome::of(found(&row, &tile, work.as_mut_slice())))
+        let answer = CellSheet::over(1, 1, &row).and_then(|mut draft| {
+            find(&mut draft, &tile, work.as_mut_slice(), &mut [])
+        });
+        Ok(answer.into())
     }
 }
 

@@ -2,8 +2,7 @@
 use crate::attempt::{Attempt, Outcome, tell_all};
 use crate::book_with::book_with;
 use book::{Book, Verdict};
-use cells::{Cell, Lift};
-use drafts::OverCells;
+use cells::Lift;
 use grids::Refusal;
 use plain::Plain;
 use sheets::CellSheet;
@@ -37,32 +36,21 @@ impl fmt::Display for StopCount {
     }
 }
 
-// Judges a draft of one row.
-fn judge_row<C: Cell>(
-    book: &mut Book,
-    store: &[C],
-    row: &[C],
-    work: &mut [u32],
-) -> Result<Verdict, Refusal> {
-    let made: Result<CellSheet<C>, Refusal> = <CellSheet<'_, _> as OverCells<'_, _>>::over(
-        1,
-        row.len(),
-        row,
-    );
-    let mut draft = made?;
+// Judges a draft of one cell.
+fn judge_one(book: &mut Book, store: &[Lift], work: &mut [u32]) -> Result<Verdict, Refusal> {
+    let mut draft = CellSheet::over(1, 1, &[Lift::Sunk])?;
     book.judge(store, &Plain, &mut draft, work)
 }
 
-// Judges a draft of one row so many times, and answers the stop count of tile 0.
-fn stops_after<C: Cell>(
+// Judges so many drafts of one cell, and answers the stop count of tile 0.
+fn stops_after(
     book: &mut Book,
-    store: &[C],
-    row: &[C],
+    store: &[Lift],
     work: &mut [u32],
     drafts: usize,
 ) -> Result<u16, Refusal> {
     for _ in 0..drafts {
-        judge_row(book, store, row, work)?;
+        judge_one(book, store, work)?;
     }
     book.stops(0)
 }
@@ -74,9 +62,7 @@ impl Attempt for Judge {
         let mut book = book_with(heap, store.as_mut_slice(), 32)?;
         store.truncate(*cells);
         let mut work = vec![in heap; 0u32; *words]?;
-        let row = [Lift::default()];
-        let verdict = judge_row(&mut book, store.as_slice(), &row, work.as_mut_slice());
-        Ok(Outcome::of(verdict))
+        Ok(judge_one(&mut book, store.as_slice(), work.as_mut_slice()).into())
     }
 }
 
@@ -86,11 +72,8 @@ impl Attempt for StopCount {
         let mut store = [Lift::default()];
         let mut book = book_with(heap, &mut store, 1)?;
         let mut work = vec![in heap; 0u32; 12288]?;
-        let row = [Lift::default()];
-        match stops_after(&mut book, &store, &row, work.as_mut_slice(), *drafts) {
-            Ok(count) => Ok(Outcome::Count(count)),
-            Err(refusal) => Ok(Outcome::Refused(refusal)),
-        }
+        let stops = stops_after(&mut book, &store, work.as_mut_slice(), *drafts);
+        Ok(stops.map_or_else(Outcome::Refused, Outcome::Count))
     }
 }
 

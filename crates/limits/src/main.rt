@@ -11,16 +11,12 @@ mod judges;
 mod reads;
 mod sheet_sizes;
 
-fn run(rt: &HostRuntime) -> anyhow::Result<()> {
-    finds::tell(rt)?;
-    sheet_sizes::tell(rt)?;
-    reads::tell(rt)?;
-    enters::tell(rt)?;
-    asks::tell(rt)?;
-    judges::tell(rt)?;
-    files::tell(rt)
-}
-
 fn main(rt: HostRuntime) -> anyhow::Result<()> {
-    run(&rt)
+    finds::tell(&rt)?;
+    sheet_sizes::tell(&rt)?;
+    reads::tell(&rt)?;
+    enters::tell(&rt)?;
+    asks::tell(&rt)?;
+    judges::tell(&rt)?;
+    files::tell(&rt)
 }

@@ -32,8 +32,7 @@ impl Attempt for Read {
         let Read(count, length, byte, room) = self;
         let bytes = vec![in heap; *byte; *length]?;
         let mut memory = vec![in heap; Lift::default(); *room]?;
-        let answer = read_cells(*count, bytes.as_slice(), memory.as_mut_slice());
-        Ok(Outcome::of(answer))
+        Ok(read_cells(*count, bytes.as_slice(), memory.as_mut_slice()).into())
     }
 }
 

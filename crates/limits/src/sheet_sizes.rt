@@ -1,8 +1,6 @@
 //! Making a cell sheet and a byte sheet.
 use crate::attempt::{Attempt, Outcome, tell_all};
-use cells::{Cell, Lift};
-use drafts::{OverBytes, OverCells};
-use grids::Refusal;
+use cells::Lift;
 use sheets::{ByteSheet, CellSheet};
 use std::alloc::Global;
 use std::fmt;
@@ -56,37 +54,19 @@ impl fmt::Display for Bytes {
     }
 }
 
-// Makes a cell sheet and lets it go.
-fn try_cells<C: Cell>(size: (usize, usize), cells: &[C]) -> Result<(), Refusal> {
-    let made: Result<CellSheet<C>, Refusal> = <CellSheet<'_, _> as OverCells<'_, _>>::over(
-        size.0, size.1, cells,
-    );
-    made?;
-    Ok(())
-}
-
-// Makes a byte sheet and lets it go.
-fn try_bytes<C: Cell>(size: (usize, usize), bytes: &[u8]) -> Result<(), Refusal> {
-    let made: Result<ByteSheet<C>, Refusal> = <ByteSheet<'_, _> as OverBytes<'_, _>>::over(
-        size.0, size.1, bytes,
-    );
-    made?;
-    Ok(())
-}
-
 impl Attempt for Cells {
     fn outcome(&self, heap: Global) -> anyhow::Result<Outcome> {
-        let Cells(size, count) = self;
+        let Cells((rows, cols), count) = self;
         let cells = vec![in heap; Lift::default(); *count]?;
-        Ok(Outcome::of(try_cells(*size, cells.as_slice())))
+        Ok(CellSheet::over(*rows, *cols, cells.as_slice()).into())
     }
 }
 
 impl Attempt for Bytes {
     fn outcome(&self, heap: Global) -> anyhow::Result<Outcome> {
-        let Bytes(size, count, byte) = self;
+        let Bytes((rows, cols), count, byte) = self;
         let bytes = vec![in heap; *byte; *count]?;
-        Ok(Outcome::of(try_bytes::<Lift>(*size, bytes.as_slice())))
+        Ok(ByteSheet::<Lift>::over(*rows, *cols, bytes.as_slice()).into())
     }
 }
 
