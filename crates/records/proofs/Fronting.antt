@@ -1,5 +1,5 @@
 -- What stands at the front of bytes, by what reading the record there answered.
-use Rattle.std.proofs.Common.{◌≡◌, ℕ, ◌+◌, ◌-◌, ◌*◌, ◌<◌, ◌≤◌, Bool, ◌&&◌, leb, List, [], ◌∷◌, length, drop, is_some, Some, None, Ok, Err, Option, sym, refl, ap, ◌∙◌, subst, arith}
+use Rattle.std.proofs.Common.{◌≡◌, ℕ, ◌+◌, ◌-◌, ◌*◌, ◌<◌, ◌≤◌, Bool, ◌&&◌, leb, List, [], ◌∷◌, length, drop, is_some, Some, None, Ok, Err, Option, Result, sym, refl, ap, ◌∙◌, subst, arith}
 use Rattle.std.proofs.lemmas.List.{length-drop, drop-drop, length-take-le}
 use Rattle.std.proofs.lemmas.Bool.{leb-true, and_parts}
 use Rattle.grids.specs.Refusals.{between, unless}
@@ -8,9 +8,10 @@ use Rattle.cells.specs.Readings.{Reading}
 use Rattle.readings.specs.CellLists.{cells_read}
 use Rattle.readings.proofs.InTurn.{cells_read_take}
 use Rattle.records.specs.Marks.{known, limit, size_number}
-use Rattle.records.specs.Entries.{Entry}
+use Rattle.records.specs.Entries.{Entry, FaultAt}
 use Rattle.records.specs.Sound.{Sound}
-use Rattle.records.specs.Fronts.{Front, whole, faulty, mark_in, after_mark, rows_in, cols_in, body_size, body_checks, record_fault, entry_in, parted, faulty_or, front}
+use Rattle.records.specs.Unread.{Unread}
+use Rattle.records.specs.Fronts.{next_answer, handed_on, moved_to, Front, whole, faulty, mark_in, after_mark, rows_in, cols_in, body_size, body_checks, record_fault, entry_in, parted, faulty_or, front}
 
 module _ {C : Type 0} (k : Reading C) (bs : List ℕ) where
   -- a record with no fault is sound and whole
@@ -70,6 +71,29 @@ module _ {C : Type 0} (k : Reading C) (bs : List ℕ) (some : 0 < length bs) whe
 
   pub front_faulty : (n : ℕ) → Err n ≡ unless (record_fault k bs) (parted k (mark_in bs) (after_mark bs)) → front k bs ≡ faulty n
   front_faulty n h = front_some k bs some ∙ ap (λ o. faulty_or o (entry_in k (mark_in bs) (after_mark bs)) (2 + (4 + body_size k (after_mark bs)))) (unless_err (record_fault k bs) (parted k (mark_in bs) (after_mark bs)) n h)
+
+-- what reading answers and leaves, where u is unread
+pub record Read {C : Type 0} (k : Reading C) (u : Unread) (answer : Result (Option Entry) FaultAt) (v : Unread) : Type 0 where
+  pub answer_is : answer ≡ next_answer u.at (front k u.bytes)
+  pub bytes_is : v.bytes ≡ handed_on u.bytes (front k u.bytes)
+  pub at_is : v.at ≡ moved_to u.at (front k u.bytes)
+
+module _ {C : Type 0} (k : Reading C) (bs : List ℕ) (n : ℕ) (u : Unread) (is : record { bytes = bs; at = n } ≡ u) where
+  -- a record was read: the reader stands after it
+  pub read_whole : (rest : List ℕ) (e : Entry) → Parted bs rest e (front k bs) → Read k u (Ok (Some e)) (record { bytes = rest; at = n + (length bs - length rest) })
+  read_whole rest e p =
+      subst (λ w. Read k w (Ok (Some e)) (record { bytes = rest; at = n + (length bs - length rest) })) is
+      (record {
+        answer_is = ap (next_answer n) (sym p.is);
+        bytes_is = p.rest_is ∙ ap (handed_on bs) (sym p.is);
+        at_is = ap (moved_to n) (sym p.is);
+      })
+
+  -- a fault was met: the reader stays
+  pub read_fault : (m : ℕ) → front k bs ≡ faulty m → Read k u (Err (record { number = m; at = n })) u
+  read_fault m e =
+      subst (λ w. Read k w (Err (record { number = m; at = n })) w) is
+      (record { answer_is = ap (next_answer n) (sym e); bytes_is = ap (handed_on bs) (sym e); at_is = ap (moved_to n) (sym e) })
 
 -- the record at the front is sound, and takes a byte and more
 pub record Took {C : Type 0} (k : Reading C) (bs : List ℕ) (e : Entry) (m : ℕ) : Type 0 where

@@ -3,3 +3,4 @@ pub mod Entries
 pub mod Fronts
 pub mod Files
 pub mod Sound
+pub mod Unread

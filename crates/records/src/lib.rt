@@ -11,6 +11,7 @@ ghost use Rattle.records.specs.Fronts.{mark_in, after_mark, body_checks, record_
 use cells::Cell;
 use grids::{Refusal, sized};
 use readings::all_read;
+use std::marker::Model;
 
 /// The size of a draft or tile, and its cells as they stand in the file.
 #[derive(Clone, Copy)]
@@ -87,22 +88,31 @@ pub fn read_record<'a, C: Cell>(input: &'a [u8]) -> Result<(Record<'a>, &'a [u8]
 pub struct Reader<'a> {
     rest: &'a [u8],
     at: usize,
-    ghost fits: { at + length rest.now < 2 ^ 64 },
+}
+
+impl<'a> Model for Reader<'a> {
+    ghost use Rattle.std.specs.Prelude.{◌+◌, ◌^◌, ◌<◌, length};
+    ghost use Rattle.records.specs.Unread.{Unread};
+
+    ghost Value = { Unread };
+
+    ghost view = { λ a. record { bytes = a.rest.now; at = a.at } };
+
+    ghost invariant = { λ a. a.at + length a.rest.now < 2 ^ 64 };
 }
 
 impl<'a> Reader<'a> {
     pub fn new(input: &'a [u8]) -> Reader<'a>
-        ensures rest { result.rest.now ≡ input.now }
-        ensures at { result.at ≡ 0 }
+        ensures { result ≡ record { bytes = input.now; at = 0 } }
     {
         Reader { rest: input, at: 0 }
     }
 
     /// The next record, or nothing at the end. At a fault the reader stays.
     pub fn next<C: Cell>(&mut self) -> Result<Option<Record<'a>>, Fault>
-        ensures answer { answered result ≡ next_answer self.old.at (front C.Cell.reading self.old.rest.now) }
-        ensures rest { self.new.rest.now ≡ handed_on self.old.rest.now (front C.Cell.reading self.old.rest.now) }
-        ensures at { self.new.at ≡ moved_to self.old.at (front C.Cell.reading self.old.rest.now) }
+        ensures answer { answered result ≡ next_answer self.old.at (front C.Cell.reading self.old.bytes) }
+        ensures rest { self.new.bytes ≡ handed_on self.old.bytes (front C.Cell.reading self.old.bytes) }
+        ensures at { self.new.at ≡ moved_to self.old.at (front C.Cell.reading self.old.bytes) }
     {
         if self.rest.is_empty() {
             return Ok(None);

@@ -4,10 +4,10 @@ use Rattle.reports.proofs.Files.{answer_is, record_took, shrinks, reached_end, r
 use Rattle.reports.proofs.report_file.Goals as goal
 
 pub report_record-requires : goal.report_record-requires
-report_record-requires g c = (record_took g.C.Cell.reading c.loop-record.reader.at c.loop-record.reader.rest.now (answer_is c.in-Ok-Some.field-0-is c.in-Ok-Some.ensures.answer)).2.sound
+report_record-requires g c = (record_took g.C.Cell.reading c.loop-record.reader.at c.loop-record.reader.bytes (answer_is c.in-Ok-Some.field-0-is c.in-Ok-Some.ensures.answer)).2.sound
 
 pub loop-record-smaller : goal.loop-record-smaller
-loop-record-smaller g c = shrinks g.C.Cell.reading c.loop-record.reader.at c.loop-record.reader.rest.now (answer_is c.in-Ok-Some.field-0-is c.in-Ok-Some.ensures.answer) c.next.ensures.rest
+loop-record-smaller g c = shrinks g.C.Cell.reading c.loop-record.reader.at c.loop-record.reader.bytes (answer_is c.in-Ok-Some.field-0-is c.in-Ok-Some.ensures.answer) c.next.ensures.rest
 
 pub loop-record-preserved : goal.loop-record-preserved
 loop-record-preserved g c =
