@@ -1,30 +1,42 @@
 -- A search that is over, and what its answer says.
-use Rattle.std.proofs.Common.{◌≡◌, ℕ, List, length, ap, ◌∙◌, arith}
+use Rattle.std.proofs.Common.{◌≡◌, ℕ, length, Ok, None, Option, sym, ap, ◌∙◌, subst, arith}
 use Rattle.grids.specs.declared.Found.{Found}
-use Rattle.grids.specs.declared.Position.{Position}
 use Rattle.grids.specs.Kinds.{Kind}
-use Rattle.grids.specs.Grids.{Grid}
+use Rattle.grids.specs.Grids.{Grid, Tile, DrawnGrid, laid}
 use Rattle.grids.specs.Places.{places, spots, heights, widths}
 use Rattle.grids.specs.Listed.{listed}
+use Rattle.grids.specs.Refusals.{first_failed, unless, kept_or}
+use Rattle.grids.proofs.Refusing.{unless_ok, failed_then}
 use Rattle.grids.proofs.Writing.{filled-listed}
-use Rattle.drafts.specs.Tallies.{raised}
-use Rattle.engine.specs.Finding.{finding}
+use Rattle.drafts.specs.Tallies.{Tally, raised}
+use Rattle.engine.specs.Views.{viewed}
+use Rattle.engine.specs.Finding.{tile_checks, work_checks, find_refusal, finding}
+use Rattle.plain.specs.declared.Search.{Search}
 use Rattle.plain.specs.Looks.{plain_looks, plain_rule}
 use Rattle.plain.specs.Progress.{Done}
 
--- a search that began with nothing found and has been at each alignment
-pub record Answered {C : Type 0} (k : Kind C) (g t : Grid C) (b : Found) (old new : List Position) (u v : ℕ) : Type 0 where
-  pub found : b ≡ finding k (plain_rule k) g t
-  pub listing : new ≡ listed (places k g t) old
-  pub counts : v ≡ raised u (plain_looks k g t)
+module _ {C D : Type 0} (k : Kind C) (shows : D → DrawnGrid C) (tally : D → Tally) (a b : Search C D) where
+  abbrev g : Grid C
+  g = (shows a.draft.now).grid
 
-pub done_all : {C : Type 0} (k : Kind C) (g t : Grid C) (b : Found) (old new : List Position) (u v : ℕ) → Done k g t (spots (heights g t) (widths g t)) (record { places = 0; looks = 0 }) b old new u v → Answered k g t b old new u v
-done_all k g t b old new u v d =
-    let p : b.places ≡ length (places k g t) = omega (arith, d.places) in
-    let l : b.looks ≡ plain_looks k g t = omega (arith, d.looks) in
-    let F : ℕ → ℕ → Found = λ x y. record { places = x; looks = y } in
-    record {
-      found = ap (λ x. F x b.looks) p ∙ ap (F (length (places k g t))) l;
-      listing = d.listing ∙ filled-listed (places k g t) old;
-      counts = d.counts;
-    }
+  -- what find answers and leaves for the tile t and the refusal o, where b is the end of the search a
+  pub record Answered (o : Option ℕ) (t : Tile C) : Type 0 where
+    pub answer : Ok b.found ≡ unless o (finding k (plain_rule k) g (laid t))
+    pub listing : b.list.now ≡ kept_or o a.list.now (listed (places k g (laid t)) a.list.now)
+    pub counts : (tally b.draft.now).value ≡ kept_or o (tally a.draft.now).value (raised (tally a.draft.now).value (plain_looks k g (laid t)))
+
+  -- the tile and the work table passed their checks, and the search, which began with nothing found, has been at each alignment
+  pub done_all : (t : Tile C) (w : ℕ) → Ok (viewed a.tile.view) ≡ unless (first_failed (tile_checks t)) t → Ok (tt {0}) ≡ unless (first_failed (work_checks w)) (tt {0}) → (a.found.places ≡ 0) × (a.found.looks ≡ 0) → Done k shows tally (spots (heights g (laid (viewed a.tile.view))) (widths g (laid (viewed a.tile.view)))) a b → Answered (find_refusal t w) t
+  done_all t w tile_passed work_passed new d =
+      let p = unless_ok (first_failed (tile_checks t)) t (viewed a.tile.view) tile_passed in
+      let q = unless_ok (first_failed (work_checks w)) (tt {0}) (tt {0}) work_passed in
+      let none : find_refusal t w ≡ None = failed_then (tile_checks t) (work_checks w) p.0 ∙ q.0 in
+      let P : Option ℕ → Type 0 = λ o. Answered o t in
+      let F : ℕ → ℕ → Found = λ m n. record { places = m; looks = n } in
+      let x : b.found.places ≡ length (places k g (laid (viewed a.tile.view))) = omega (arith, d.places) in
+      let y : b.found.looks ≡ plain_looks k g (laid (viewed a.tile.view)) = omega (arith, d.looks) in
+      subst P (sym none) (subst (Answered None) p.1 (record {
+        answer = ap Ok (ap (λ n. F n b.found.looks) x ∙ ap (F (length (places k g (laid (viewed a.tile.view))))) y);
+        listing = let f = filled-listed (places k g (laid (viewed a.tile.view))) a.list.now in cc;
+        counts = d.counts;
+      }))

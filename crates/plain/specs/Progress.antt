@@ -1,24 +1,33 @@
--- What an engine needs, and what it has done so far. Only the contracts of private functions use these. Assumes nothing.
+-- What a search has done so far. Only the contracts of private functions use these. Assumes nothing.
 use Rattle.std.specs.Prelude.{◌≡◌, ℕ, ◌+◌, ◌*◌, ◌≤◌, List, length, sum_by, filter}
-use Rattle.grids.specs.declared.Found.{Found}
 use Rattle.grids.specs.declared.Position.{Position}
 use Rattle.grids.specs.Kinds.{Kind}
-use Rattle.grids.specs.Grids.{Grid, Tile, Drawn, Valid}
+use Rattle.grids.specs.Grids.{DrawnGrid, laid}
 use Rattle.grids.specs.Places.{lies}
 use Rattle.grids.specs.Listed.{filled}
-use Rattle.drafts.specs.Tallies.{raised}
+use Rattle.drafts.specs.Tallies.{Tally, raised}
+use Rattle.engine.specs.Views.{viewed}
+use Rattle.plain.specs.declared.Search.{Search}
 use Rattle.plain.specs.Looks.{compared}
 
--- a grid and a tile that an engine may begin with
-pub record Ready {C : Type 0} (g : Grid C) (t : Tile C) : Type 0 where
-  pub drawn : Drawn g
-  pub valid : Valid t
+module _ {C D : Type 0} (k : Kind C) (shows : D → DrawnGrid C) where
+  -- the spots at which the tile of a search lies in its draft
+  abbrev pub places_at : Search C D → List Position → List Position
+  places_at s qs = filter (lies k (shows s.draft.now).grid (laid (viewed s.tile.view))) qs
 
--- what an engine did at the spots qs: what it found went from a to b, its list from old to new, the tally from u to v
-pub record Done {C : Type 0} (k : Kind C) (g t : Grid C) (qs : List Position) (a b : Found) (old new : List Position) (u v : ℕ) : Type 0 where
-  pub places : b.places ≡ a.places + length (filter (lies k g t) qs)
-  pub looks : b.looks ≡ a.looks + sum_by (compared k g t) qs
-  pub listing : new ≡ filled a.places (filter (lies k g t) qs) old
-  pub counts : v ≡ raised u (sum_by (compared k g t) qs)
-  pub few_places : b.places ≤ a.places + length qs
-  pub few_looks : b.looks ≤ a.looks + length qs * 1024
+  -- how many cells a search compares at the spots
+  abbrev pub looks_at : Search C D → List Position → ℕ
+  looks_at s qs = sum_by (compared k (shows s.draft.now).grid (laid (viewed s.tile.view))) qs
+
+  -- what a search did at the spots qs, from its state a to b
+  pub record Done (tally : D → Tally) (qs : List Position) (a b : Search C D) : Type 0 where
+    pub draft : b.draft.ghost_name ≡ a.draft.ghost_name
+    pub list : b.list.ghost_name ≡ a.list.ghost_name
+    pub tile : b.tile ≡ a.tile
+    pub same : (shows b.draft.now).grid ≡ (shows a.draft.now).grid
+    pub places : b.found.places ≡ a.found.places + length (places_at a qs)
+    pub looks : b.found.looks ≡ a.found.looks + looks_at a qs
+    pub listing : b.list.now ≡ filled a.found.places (places_at a qs) a.list.now
+    pub counts : (tally b.draft.now).value ≡ raised (tally a.draft.now).value (looks_at a qs)
+    pub few_places : b.found.places ≤ a.found.places + length qs
+    pub few_looks : b.found.looks ≤ a.found.looks + length qs * 1024
