@@ -36,10 +36,10 @@ fn find_tile<C: Cell, E: Engine<C>, D: Draft<Cell = C>>(
     work: &mut [u32],
 ) -> Found
     requires { 12288 ≤ length work.old }
-    ensures answer { result ≡ finding C.Cell.kind E.Engine.rule (D.Draft.shows draft.old).grid (laid (viewed tile.now.view)) }
+    ensures answer { result ≡ finding C.Cell.kind E.Engine.rule (D.Draft.shows draft.old) (laid (viewed tile.now.view)) }
     ensures few { result.looks ≤ 2 ^ 33 }
-    ensures same { (D.Draft.shows draft.new).grid ≡ (D.Draft.shows draft.old).grid }
-    ensures counts { (D.Draft.tally draft.new).value ≡ raised (D.Draft.tally draft.old).value result.looks }
+    ensures same { D.Draft.shows draft.new ≡ D.Draft.shows draft.old }
+    ensures counts { D.Draft.tally draft.new ≡ raised (D.Draft.tally draft.old) result.looks }
 {
     let Ok(found) = engine.find(draft, &tile.view, work, &mut []) else {
         unreachable()
@@ -56,10 +56,10 @@ impl Book {
         draft: &mut D,
         work: &mut [u32],
     ) -> Result<Verdict, Refusal>
-        ensures judges { Judges C.Cell.kind E.Engine.rule (D.Draft.shows draft.old).grid (length work.old) (held self.old store.now) (numbered result) (held self.new store.now) }
-        ensures exact { OnOk result (AllByRecursion (Exact C.Cell.kind (D.Draft.shows draft.old).grid) (held self.old store.now).tiles) }
-        ensures same { (D.Draft.shows draft.new).grid ≡ (D.Draft.shows draft.old).grid }
-        ensures counts { (D.Draft.tally draft.new).value ≡ judge_tally E.Engine.rule (D.Draft.shows draft.old).grid (length work.old) (held self.old store.now) (D.Draft.tally draft.old).value }
+        ensures judges { Judges C.Cell.kind E.Engine.rule (D.Draft.shows draft.old) (length work.old) (held self.old store.now) (numbered result) (held self.new store.now) }
+        ensures exact { OnOk result (AllByRecursion (Exact C.Cell.kind (D.Draft.shows draft.old)) (held self.old store.now).tiles) }
+        ensures same { D.Draft.shows draft.new ≡ D.Draft.shows draft.old }
+        ensures counts { D.Draft.tally draft.new ≡ judge_tally E.Engine.rule (D.Draft.shows draft.old) (length work.old) (held self.old store.now) (D.Draft.tally draft.old) }
         ensures untouched { OnErr result ((self.new ≡ self.old) × (draft.new ≡ draft.old) × (work.new ≡ work.old)) }
     {
         self.check_judge(store, work.len())?;
@@ -83,10 +83,10 @@ impl Book {
         work: &mut [u32],
     ) -> Verdict
         requires { judge_refusal (held self.old store.now) (length work.old) ≡ None }
-        ensures answer { result ≡ verdict C.Cell.kind E.Engine.rule (D.Draft.shows draft.old).grid (held self.old store.now).tiles }
-        ensures state { held self.new store.now ≡ judged C.Cell.kind (D.Draft.shows draft.old).grid (held self.old store.now) }
-        ensures same { (D.Draft.shows draft.new).grid ≡ (D.Draft.shows draft.old).grid }
-        ensures counts { (D.Draft.tally draft.new).value ≡ raised (D.Draft.tally draft.old).value result.looks }
+        ensures answer { result ≡ verdict C.Cell.kind E.Engine.rule (D.Draft.shows draft.old) (held self.old store.now).tiles }
+        ensures state { held self.new store.now ≡ judged C.Cell.kind (D.Draft.shows draft.old) (held self.old store.now) }
+        ensures same { D.Draft.shows draft.new ≡ D.Draft.shows draft.old }
+        ensures counts { D.Draft.tally draft.new ≡ raised (D.Draft.tally draft.old) result.looks }
     {
         let mut sum = Verdict { found: 0, looks: 0 };
         for n in 0..self.count {
@@ -108,8 +108,8 @@ impl Book {
         requires within { number < self.old.count }
         requires accepted { judge_refusal (held self.old store.now) (length work.old) ≡ None }
         requires few { (before.found < 2 ^ 32) × (before.looks < 2 ^ 48) }
-        ensures tried { Tried C.Cell.kind E.Engine.rule (D.Draft.shows draft.old).grid number (slice_index_or (held self.old store.now).tiles number no_tile) self.old self.new before result (D.Draft.tally draft.old).value (D.Draft.tally draft.new).value }
-        ensures same { (D.Draft.shows draft.new).grid ≡ (D.Draft.shows draft.old).grid }
+        ensures tried { Tried C.Cell.kind E.Engine.rule (D.Draft.shows draft.old) number (slice_index_or (held self.old store.now).tiles number no_tile) self.old self.new before result (D.Draft.tally draft.old) (D.Draft.tally draft.new) }
+        ensures same { D.Draft.shows draft.new ≡ D.Draft.shows draft.old }
     {
         let tile = HeldTiles { book: self, store }.get(number);
         let Found { places, looks } = find_tile(engine, draft, &tile, work);

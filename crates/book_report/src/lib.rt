@@ -103,8 +103,8 @@ impl<'e, C: Cell, E: Engine<C>> BookReport<'e, C, E> {
         draft: &mut D,
         lines: &mut Vec<Line>,
     ) -> Result<(), AllocError>
-        ensures lines { OnOk result (lines.new.items ≡ lines.old.items ++ numbered_lines (place_lines C.Cell.kind (D.Draft.shows draft.old).grid) 0 (held self.old.book self.old.store.items).tiles) }
-        ensures same { OnOk result ((D.Draft.shows draft.new).grid ≡ (D.Draft.shows draft.old).grid) }
+        ensures lines { OnOk result (lines.new.items ≡ lines.old.items ++ numbered_lines (place_lines C.Cell.kind (D.Draft.shows draft.old)) 0 (held self.old.book self.old.store.items).tiles) }
+        ensures same { OnOk result ((D.Draft.shows draft.new) ≡ (D.Draft.shows draft.old)) }
         ensures state { OnOk result (held self.new.book self.new.store.items ≡ held self.old.book self.old.store.items) }
     {
         let mut list = [Position::default(); 64];

@@ -1,11 +1,6 @@
 -- How looks are counted. Assumes nothing.
-use Rattle.std.specs.Prelude.{ℕ, ◌+◌, ◌%◌, ◌^◌, ◌<◌, cond}
+use Rattle.std.specs.Prelude.{ℕ, ◌+◌, ◌%◌, ◌^◌, cond}
 use Rattle.grids.specs.Grids.{Grid, inside}
-
--- a count of looks, which is known to fit 64 bits
-pub record Tally : Type 0 where
-  pub value : ℕ
-  pub fits : value < 2 ^ 64
 
 -- the tally u after n more looks inside
 abbrev pub raised : ℕ → ℕ → ℕ

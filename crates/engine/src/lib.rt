@@ -45,9 +45,9 @@ pub trait Engine<C: Cell> {
         work: &mut [u32],
         list: &mut [Position],
     ) -> Result<Found, Refusal>
-        ensures answer { numbered result ≡ find_answer C.Cell.kind rule (D.Draft.shows draft.old).grid (viewed tile.now) (length work.old) }
-        ensures listing { list.new ≡ find_list C.Cell.kind (D.Draft.shows draft.old).grid (viewed tile.now) (length work.old) list.old }
-        ensures same { (D.Draft.shows draft.new).grid ≡ (D.Draft.shows draft.old).grid }
-        ensures counts { (D.Draft.tally draft.new).value ≡ find_tally rule (D.Draft.shows draft.old).grid (viewed tile.now) (length work.old) (D.Draft.tally draft.old).value }
+        ensures answer { numbered result ≡ find_answer C.Cell.kind rule (D.Draft.shows draft.old) (viewed tile.now) (length work.old) }
+        ensures listing { list.new ≡ find_list C.Cell.kind (D.Draft.shows draft.old) (viewed tile.now) (length work.old) list.old }
+        ensures same { D.Draft.shows draft.new ≡ D.Draft.shows draft.old }
+        ensures counts { D.Draft.tally draft.new ≡ find_tally rule (D.Draft.shows draft.old) (viewed tile.now) (length work.old) (D.Draft.tally draft.old) }
         ensures untouched { OnErr result ((draft.new ≡ draft.old) × (work.new ≡ work.old) × (list.new ≡ list.old)) };
 }

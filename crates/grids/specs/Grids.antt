@@ -42,8 +42,3 @@ module _ {C : Type 0} where
   -- a tile, or a sheet, laid out as a grid: position (i, j) has cell number i * cols + j
   abbrev pub laid : Tile C → Grid C
   laid t = record { rows = t.rows; cols = t.cols; at = λ i j. cond (nat_lt i t.rows && nat_lt j t.cols) (slice_get t.cells (i * t.cols + j)) None }
-
--- a grid that is known to be drawn
-pub record DrawnGrid (C : Type 0) : Type 0 where
-  pub grid : Grid C
-  pub drawn : Drawn grid

@@ -56,12 +56,12 @@ pub fn find<C: Cell, D: Draft<Cell = C>>(
     work: &mut [u32],
     list: &mut [Position],
 ) -> Result<Found, Refusal>
-    ensures answer { numbered result ≡ find_answer C.Cell.kind (plain_rule C.Cell.kind) (D.Draft.shows draft.old).grid (viewed tile.now) (length work.old) }
-    ensures listing { list.new ≡ find_list C.Cell.kind (D.Draft.shows draft.old).grid (viewed tile.now) (length work.old) list.old }
-    ensures same { (D.Draft.shows draft.new).grid ≡ (D.Draft.shows draft.old).grid }
-    ensures counts { (D.Draft.tally draft.new).value ≡ find_tally (plain_rule C.Cell.kind) (D.Draft.shows draft.old).grid (viewed tile.now) (length work.old) (D.Draft.tally draft.old).value }
+    ensures answer { numbered result ≡ find_answer C.Cell.kind (plain_rule C.Cell.kind) (D.Draft.shows draft.old) (viewed tile.now) (length work.old) }
+    ensures listing { list.new ≡ find_list C.Cell.kind (D.Draft.shows draft.old) (viewed tile.now) (length work.old) list.old }
+    ensures same { D.Draft.shows draft.new ≡ D.Draft.shows draft.old }
+    ensures counts { D.Draft.tally draft.new ≡ find_tally (plain_rule C.Cell.kind) (D.Draft.shows draft.old) (viewed tile.now) (length work.old) (D.Draft.tally draft.old) }
     ensures untouched { OnErr result ((draft.new ≡ draft.old) × (work.new ≡ work.old) × (list.new ≡ list.old)) }
-    ensures exact { OnOk result (Exact C.Cell.kind (D.Draft.shows draft.old).grid (viewed tile.now)) }
+    ensures exact { OnOk result (Exact C.Cell.kind (D.Draft.shows draft.old) (viewed tile.now)) }
 {
     Plain.find(draft, tile, work, list)
 }
@@ -76,10 +76,10 @@ struct Comparison {
 
 /// Looks at one cell of the draft, and says whether it is the given one.
 fn agree_at<C: Cell, D: Draft<Cell = C>>(draft: &mut D, row: usize, col: usize, cell: C) -> bool
-    requires { (row < (D.Draft.shows draft.old).grid.rows) × (col < (D.Draft.shows draft.old).grid.cols) }
-    ensures answer { result ≡ alike C.Cell.kind ((D.Draft.shows draft.old).grid.at row col) (Some cell) }
-    ensures same { (D.Draft.shows draft.new).grid ≡ (D.Draft.shows draft.old).grid }
-    ensures counts { (D.Draft.tally draft.new).value ≡ raised (D.Draft.tally draft.old).value 1 }
+    requires { (row < (D.Draft.shows draft.old).rows) × (col < (D.Draft.shows draft.old).cols) }
+    ensures answer { result ≡ alike C.Cell.kind ((D.Draft.shows draft.old).at row col) (Some cell) }
+    ensures same { D.Draft.shows draft.new ≡ D.Draft.shows draft.old }
+    ensures counts { D.Draft.tally draft.new ≡ raised (D.Draft.tally draft.old) 1 }
 {
     match draft.look(row, col) {
         Some(seen) => seen == cell,
@@ -93,12 +93,12 @@ fn compare<C: Cell, D: Draft<Cell = C>>(
     tile: &ValidTile<'_, C>,
     corner: Position,
 ) -> Comparison
-    requires inside { (corner.row + tile.now.view.rows ≤ (D.Draft.shows draft.old).grid.rows) × (corner.col + tile.now.view.cols ≤ (D.Draft.shows draft.old).grid.cols) }
-    ensures agrees { result.agrees ≡ lies C.Cell.kind (D.Draft.shows draft.old).grid (laid (viewed tile.now.view)) corner }
-    ensures cells { result.cells ≡ compared C.Cell.kind (D.Draft.shows draft.old).grid (laid (viewed tile.now.view)) corner }
+    requires inside { (corner.row + tile.now.view.rows ≤ (D.Draft.shows draft.old).rows) × (corner.col + tile.now.view.cols ≤ (D.Draft.shows draft.old).cols) }
+    ensures agrees { result.agrees ≡ lies C.Cell.kind (D.Draft.shows draft.old) (laid (viewed tile.now.view)) corner }
+    ensures cells { result.cells ≡ compared C.Cell.kind (D.Draft.shows draft.old) (laid (viewed tile.now.view)) corner }
     ensures few { result.cells ≤ 1024 }
-    ensures same { (D.Draft.shows draft.new).grid ≡ (D.Draft.shows draft.old).grid }
-    ensures counts { (D.Draft.tally draft.new).value ≡ raised (D.Draft.tally draft.old).value result.cells }
+    ensures same { D.Draft.shows draft.new ≡ D.Draft.shows draft.old }
+    ensures counts { D.Draft.tally draft.new ≡ raised (D.Draft.tally draft.old) result.cells }
 {
     // By index: with `chunks_exact` a tile of one column took a seventh longer to compare.
     let cells = tile.view.cells;
@@ -132,7 +132,7 @@ struct Search<'s, C, D> {
 impl<C: Cell, D: Draft<Cell = C>> Search<'_, C, D> {
     /// Tries one alignment.
     fn spot(&mut self, corner: Position)
-        requires inside { (corner.row + self.old.tile.view.rows ≤ (D.Draft.shows self.old.draft.now).grid.rows) × (corner.col + self.old.tile.view.cols ≤ (D.Draft.shows self.old.draft.now).grid.cols) }
+        requires inside { (corner.row + self.old.tile.view.rows ≤ (D.Draft.shows self.old.draft.now).rows) × (corner.col + self.old.tile.view.cols ≤ (D.Draft.shows self.old.draft.now).cols) }
         requires few { (self.old.found.places < 2 ^ 32) × (self.old.found.looks < 2 ^ 40) }
         ensures { Done C.Cell.kind D.Draft.shows D.Draft.tally (corner ∷ []) self.old self.new }
     {
@@ -146,7 +146,7 @@ impl<C: Cell, D: Draft<Cell = C>> Search<'_, C, D> {
 
     /// Tries the alignments of one row, of which there are `width`.
     fn row(&mut self, row: usize, width: usize)
-        requires inside { (row + self.old.tile.view.rows ≤ (D.Draft.shows self.old.draft.now).grid.rows) × (width ≡ widths (D.Draft.shows self.old.draft.now).grid (laid (viewed self.old.tile.view))) }
+        requires inside { (row + self.old.tile.view.rows ≤ (D.Draft.shows self.old.draft.now).rows) × (width ≡ widths (D.Draft.shows self.old.draft.now) (laid (viewed self.old.tile.view))) }
         requires few { (self.old.found.places < 2 ^ 31) × (self.old.found.looks < 2 ^ 39) }
         ensures { Done C.Cell.kind D.Draft.shows D.Draft.tally (row_spots width row) self.old self.new }
     {
@@ -158,7 +158,7 @@ impl<C: Cell, D: Draft<Cell = C>> Search<'_, C, D> {
     /// Tries every alignment, row after row.
     fn sweep(&mut self)
         requires { (self.old.found.places ≡ 0) × (self.old.found.looks ≡ 0) }
-        ensures { Done C.Cell.kind D.Draft.shows D.Draft.tally (spots (heights (D.Draft.shows self.old.draft.now).grid (laid (viewed self.old.tile.view))) (widths (D.Draft.shows self.old.draft.now).grid (laid (viewed self.old.tile.view)))) self.old self.new }
+        ensures { Done C.Cell.kind D.Draft.shows D.Draft.tally (spots (heights (D.Draft.shows self.old.draft.now) (laid (viewed self.old.tile.view))) (widths (D.Draft.shows self.old.draft.now) (laid (viewed self.old.tile.view)))) self.old self.new }
     {
         let height = (self.draft.rows() + 1).saturating_sub(self.tile.view.rows);
         let width = (self.draft.cols() + 1).saturating_sub(self.tile.view.cols);

@@ -44,8 +44,8 @@ pub trait Report<C: Cell> {
         draft: &mut D,
         lines: &mut Vec<Line>,
     ) -> Result<(), AllocError>
-        ensures lines { OnOk result (lines.new.items ≡ lines.old.items ++ telling.draft_lines (state self.old) (D.Draft.shows draft.old).grid) }
-        ensures state { OnOk result (state self.new ≡ telling.draft_state (state self.old) (D.Draft.shows draft.old).grid) };
+        ensures lines { OnOk result (lines.new.items ≡ lines.old.items ++ telling.draft_lines (state self.old) (D.Draft.shows draft.old)) }
+        ensures state { OnOk result (state self.new ≡ telling.draft_state (state self.old) (D.Draft.shows draft.old)) };
 }
 
 /// The lines of a record file.

@@ -2,7 +2,7 @@ ghost use Rattle.std.specs.Prelude.{◌≡◌, ◌*◌, ◌^◌, ◌<◌, true, 
 ghost use Rattle.grids.specs.Refusals.{unless, numbered_by};
 ghost use Rattle.readings.specs.CellLists.{cells_read, cells_of};
 ghost use Rattle.drafts.specs.Making.{bytes_refusal, sheet};
-ghost use Rattle.sheets.specs.Drawing.{Drawable, drawn_bytes};
+ghost use Rattle.sheets.specs.Drawing.{Drawable, bytes_drawn};
 
 use cells::Cell;
 use drafts::Draft;
@@ -27,9 +27,13 @@ pub struct ByteSheet<'a, C: Cell> {
 impl<'a, C: Cell> Draft for ByteSheet<'a, C> {
     type Cell = C;
 
-    ghost shows = { λ s. drawn_bytes C.Cell.reading s.rows s.cols s.bytes.now s.sized s.read };
+    ghost shows = { λ s. sheet s.rows s.cols (cells_of C.Cell.reading (s.rows * s.cols) s.bytes.now) };
 
-    ghost tally = { λ s. record { value = s.tally; fits = s.fits } };
+    ghost tally = { λ s. s.tally };
+
+    ghost drawn = { λ s. bytes_drawn C.Cell.reading s.rows s.cols s.bytes.now s.sized s.read };
+
+    ghost fits = { λ s. s.fits };
 
     fn rows(&self) -> usize {
         self.rows
@@ -54,8 +58,8 @@ impl<'a, C: Cell> ByteSheet<'a, C> {
     /// Makes a draft over lent file bytes, or refuses: size, length, then a cell whose bytes read as
     /// none.
     pub fn over(rows: usize, cols: usize, bytes: &'a [u8]) -> Result<ByteSheet<'a, C>, Refusal>
-        ensures shows { numbered_by (λ s. (⟦<ByteSheet<'a, C> as Draft>⟧.shows s).grid) result ≡ unless (bytes_refusal C.Cell.reading rows cols bytes.now) (sheet rows cols (cells_of C.Cell.reading (rows * cols) bytes.now)) }
-        ensures new { numbered_by (λ s. (⟦<ByteSheet<'a, C> as Draft>⟧.tally s).value) result ≡ unless (bytes_refusal C.Cell.reading rows cols bytes.now) 0 }
+        ensures shows { numbered_by (λ s. (⟦<ByteSheet<'a, C> as Draft>⟧.shows s)) result ≡ unless (bytes_refusal C.Cell.reading rows cols bytes.now) (sheet rows cols (cells_of C.Cell.reading (rows * cols) bytes.now)) }
+        ensures new { numbered_by (λ s. ⟦<ByteSheet<'a, C> as Draft>⟧.tally s) result ≡ unless (bytes_refusal C.Cell.reading rows cols bytes.now) 0 }
     {
         if !sized(rows, cols, 2048) {
             return Err(Refusal::DraftSize);

@@ -1,7 +1,7 @@
 ghost use Rattle.std.specs.Prelude.{◌≡◌, ◌*◌, ◌^◌, ◌<◌, length};
 ghost use Rattle.grids.specs.Refusals.{unless, numbered_by};
 ghost use Rattle.drafts.specs.Making.{sheet_refusal, sheet};
-ghost use Rattle.sheets.specs.Drawing.{Drawable, drawn_cells};
+ghost use Rattle.sheets.specs.Drawing.{Drawable, sheet_drawn};
 
 use cells::Cell;
 use drafts::Draft;
@@ -22,9 +22,13 @@ pub struct CellSheet<'a, C> {
 impl<'a, C: Cell> Draft for CellSheet<'a, C> {
     type Cell = C;
 
-    ghost shows = { λ s. drawn_cells s.rows s.cols s.cells.now s.sized s.whole };
+    ghost shows = { λ s. sheet s.rows s.cols s.cells.now };
 
-    ghost tally = { λ s. record { value = s.tally; fits = s.fits } };
+    ghost tally = { λ s. s.tally };
+
+    ghost drawn = { λ s. sheet_drawn s.rows s.cols s.cells.now s.sized s.whole };
+
+    ghost fits = { λ s. s.fits };
 
     fn rows(&self) -> usize {
         self.rows
@@ -47,8 +51,8 @@ impl<'a, C: Cell> Draft for CellSheet<'a, C> {
 impl<'a, C: Cell> CellSheet<'a, C> {
     /// Makes a draft over lent cells, or refuses: size, then length.
     pub fn over(rows: usize, cols: usize, cells: &'a [C]) -> Result<CellSheet<'a, C>, Refusal>
-        ensures shows { numbered_by (λ s. (⟦<CellSheet<'a, C> as Draft>⟧.shows s).grid) result ≡ unless (sheet_refusal rows cols (length cells.now)) (sheet rows cols cells.now) }
-        ensures new { numbered_by (λ s. (⟦<CellSheet<'a, C> as Draft>⟧.tally s).value) result ≡ unless (sheet_refusal rows cols (length cells.now)) 0 }
+        ensures shows { numbered_by (λ s. (⟦<CellSheet<'a, C> as Draft>⟧.shows s)) result ≡ unless (sheet_refusal rows cols (length cells.now)) (sheet rows cols cells.now) }
+        ensures new { numbered_by (λ s. ⟦<CellSheet<'a, C> as Draft>⟧.tally s) result ≡ unless (sheet_refusal rows cols (length cells.now)) 0 }
     {
         if !sized(rows, cols, 2048) {
             return Err(Refusal::DraftSize);

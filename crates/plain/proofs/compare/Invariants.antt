@@ -4,7 +4,7 @@ use Rattle.plain.proofs.Compared.{Agreed}
 use Rattle.plain.proofs.compare.Given as goal
 
 abbrev pub invariant-loop-j : goal.invariant-loop-j
-invariant-loop-j g l = Agreed g.C.Cell.kind (viewed l.tile.view) l.corner (g.D.Draft.shows l.fn.draft).grid (g.D.Draft.shows l.draft).grid (g.D.Draft.tally l.fn.draft).value (g.D.Draft.tally l.draft).value l.seen (l.i * l.tile.view.cols + l.j) l.agrees
+invariant-loop-j g l = Agreed g.C.Cell.kind (viewed l.tile.view) l.corner (g.D.Draft.shows l.fn.draft) (g.D.Draft.shows l.draft) (g.D.Draft.tally l.fn.draft) (g.D.Draft.tally l.draft) l.seen (l.i * l.tile.view.cols + l.j) l.agrees
 
 abbrev pub invariant-tile : goal.invariant-tile
-invariant-tile g l = Agreed g.C.Cell.kind (viewed l.tile.view) l.corner (g.D.Draft.shows l.fn.draft).grid (g.D.Draft.shows l.draft).grid (g.D.Draft.tally l.fn.draft).value (g.D.Draft.tally l.draft).value l.seen (l.i * l.tile.view.cols) l.agrees
+invariant-tile g l = Agreed g.C.Cell.kind (viewed l.tile.view) l.corner (g.D.Draft.shows l.fn.draft) (g.D.Draft.shows l.draft) (g.D.Draft.tally l.fn.draft) (g.D.Draft.tally l.draft) l.seen (l.i * l.tile.view.cols) l.agrees

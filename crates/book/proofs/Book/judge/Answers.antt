@@ -12,4 +12,4 @@ returns-clause-exact g c =
     let cs = c.args.store.now in
     let w = length c.args.work.now in
     let none = (unless_ok (judge_refusal (held b cs) w) tt _ c.in_ok-check_judge.ensures).0 in
-    all_exact g.C.Cell.kind g.met.C.Cell.lawful (g.D.Draft.shows c.args.draft.now).grid b cs (judge_accepted (held b cs) w none).0
+    all_exact g.C.Cell.kind g.met.C.Cell.lawful (g.D.Draft.shows c.args.draft.now) b cs (judge_accepted (held b cs) w none).0

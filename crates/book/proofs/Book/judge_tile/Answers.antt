@@ -9,7 +9,7 @@ pub returns-then-places-gt0-clause-tried : goal.returns-then-places-gt0-clause-t
 returns-then-places-gt0-clause-tried g c =
     let k = g.C.Cell.kind in
     let rule = g.E.Engine.rule in
-    let grid = (g.D.Draft.shows c.args.draft.now).grid in
+    let grid = (g.D.Draft.shows c.args.draft.now) in
     let b = c.args.self.now in
     let f = c.find_tile-places.ensures in
     let r = c.raise.ensures in

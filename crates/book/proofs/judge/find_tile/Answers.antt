@@ -9,7 +9,7 @@ use Rattle.book.proofs.judge.find_tile.Goals as goal
 pub returns-clause-few : goal.returns-clause-few
 returns-clause-few g c =
     let rule = g.E.Engine.rule in
-    let drawn = g.D.Draft.shows c.args.draft.now in
+    let shown = g.D.Draft.shows c.args.draft.now in
     let t = viewed c.args.tile.now.view in
-    let found = unless_ok (find_refusal t (length c.args.work.now)) (finding g.C.Cell.kind rule drawn.grid (laid t)) c.in-Ok.found c.in-Ok.ensures.answer in
-    omega (arith, ap (λ f. f.looks) found.1, looks_few rule drawn.grid t drawn.drawn c.args.tile.now.valid)
+    let found = unless_ok (find_refusal t (length c.args.work.now)) (finding g.C.Cell.kind rule shown (laid t)) c.in-Ok.found c.in-Ok.ensures.answer in
+    omega (arith, ap (λ f. f.looks) found.1, looks_few rule shown t (g.met.D.Draft.drawn c.args.draft.now) c.args.tile.now.valid)

@@ -11,7 +11,7 @@ use Rattle.book_report.proofs.BookReportReport.draft.Goals.{then-found-gt0+in_ok
 pub returns-clause-lines : goal.returns-clause-lines
 returns-clause-lines g c =
     let k = g.C.Cell.kind in
-    let grid = (g.D.Draft.shows c.args.draft.now).grid in
+    let grid = (g.D.Draft.shows c.args.draft.now) in
     let b = c.args.self.now in
     let s = held b.book b.store.items in
     let j = c.judge.ensures in
@@ -19,15 +19,15 @@ returns-clause-lines g c =
     let after : (held c.judge.new.self b.store.items).tiles ≡ s.tiles = search rules in
     let lines = numbered_lines (place_lines k grid) 0 s.tiles in
     let base = vec_items c.args.lines.now in
-    let so : (vec_items c.if-found-gt0.lines ≡ base ++ lines) × ((g.D.Draft.shows c.if-found-gt0.draft).grid ≡ grid) =
+    let so : (vec_items c.if-found-gt0.lines ≡ base ++ lines) × ((g.D.Draft.shows c.if-found-gt0.draft) ≡ grid) =
     elim c.if-found-gt0.branch [
       | then-found-gt0+in_ok-push_tiles w ↦ (
         ap (λ l. vec_items l) w.lines-is ∙ (w.in_ok-push_tiles.ensures.lines ∙ ap₂ (λ h ts. base ++ numbered_lines (place_lines k h) 0 ts) j.same after),
-        ap (λ d. (g.D.Draft.shows d).grid) w.draft-is ∙ (w.in_ok-push_tiles.ensures.same ∙ j.same),
+        ap (λ d. (g.D.Draft.shows d)) w.draft-is ∙ (w.in_ok-push_tiles.ensures.same ∙ j.same),
       )
       | else-found-gt0 w ↦ (
         ap (λ l. vec_items l) w.lines-is ∙ (sym (append-nil base) ∙ ap (λ ls. base ++ ls) (sym (no_lines k grid 0 s.tiles (omega (arith, found, w.if-found-gt0.false))))),
-        ap (λ d. (g.D.Draft.shows d).grid) w.draft-is ∙ j.same,
+        ap (λ d. (g.D.Draft.shows d)) w.draft-is ∙ j.same,
       )
     ] in
     let last : c.verdict_line.result ≡ verdict_line grid.rows grid.cols (found_in k grid s.tiles) =

@@ -5,7 +5,7 @@ use Rattle.plain.proofs.Search.row.Goals as goal
 
 pub spot-requires-clause-few : goal.spot-requires-clause-few
 spot-requires-clause-few g c =
-    let few = (g.D.Draft.shows c.args.self.now.draft.now).drawn.few_cols in
+    let few = (g.met.D.Draft.drawn c.args.self.now.draft.now).few_cols in
     let n = length-row_spots c.loop-col.col c.args.row in
     (omega arith, omega arith)
 

@@ -6,7 +6,7 @@ use Rattle.plain.proofs.Search.sweep.Goals as goal
 
 pub row-requires-clause-few : goal.row-requires-clause-few
 row-requires-clause-few g c =
-    let drawn = (g.D.Draft.shows c.args.self.now.draft.now).drawn in
+    let drawn = g.met.D.Draft.drawn c.args.self.now.draft.now in
     let few = mul-le c.loop-row.row c.saturating_sub-width.result 2048 2048 (omega (arith, drawn.few_rows)) (omega (arith, drawn.few_cols)) in
     let n = length-spots c.loop-row.row c.saturating_sub-width.result in
     (omega arith, omega arith)
