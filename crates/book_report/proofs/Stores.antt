@@ -1,5 +1,5 @@
--- What becomes of the store: what it held at first changes no line, and it keeps all cells held.
-use Rattle.std.proofs.Common.{◌≡◌, ℕ, ◌+◌, eqb, ltb, leb, List, [], ◌∷◌, ◌++◌, length, Some, None, Option, sym, refl, ap, ◌∙◌, ap₂, arith}
+-- What the store held at first changes no line.
+use Rattle.std.proofs.Common.{◌≡◌, ℕ, ◌+◌, cond, eqb, ltb, leb, List, [], ◌∷◌, ◌++◌, length, Some, None, Option, sym, refl, ap, ◌∙◌, ap₂, arith}
 use Rattle.std.specs.List.{insert}
 use Rattle.grids.specs.Kinds.{Kind}
 use Rattle.grids.specs.Grids.{Tile}
@@ -7,14 +7,14 @@ use Rattle.grids.specs.Refusals.{first_failed, unless, kept_or}
 use Rattle.grids.proofs.Writing.{length-listed}
 use Rattle.cells.specs.Readings.{Reading}
 use Rattle.engine.specs.Finding.{tile_checks}
-use Rattle.book.specs.Models.{Held, tile_area, cells_held, Stored}
+use Rattle.book.specs.Models.{Held, tile_area, cells_held}
 use Rattle.book.specs.Entering.{times_held, insertion_point, all_cells, enter_refusal, entered, enter_answer}
-use Rattle.book.proofs.Stored.{entered_stored}
 use Rattle.records.specs.Marks.{Mark, draft, tile as tile_mark, unknown}
 use Rattle.records.specs.Entries.{Entry}
-use Rattle.records.specs.Files.{File}
-use Rattle.reports.specs.Reports.{entry_grid, entry_tile, fault_lines, entries_lines, file_lines}
-use Rattle.book_report.specs.Report.{enter_line, draft_lines, lines_at, state_at, says, next}
+use Rattle.records.specs.Files.{file}
+use Rattle.lines.specs.declared.Line.TheVariants.{TooLong}
+use Rattle.reports.specs.Reports.{entry_grid, entry_tile, fault_lines, entries_lines, lines_at, state_at, says, next, report}
+use Rattle.book_report.specs.Report.{enter_line, draft_lines, telling}
 
 -- the same tiles, and stores of one length
 pub record Alike {C : Type 0} (s z : Held C) : Type 0 where
@@ -40,25 +40,19 @@ module _ {C : Type 0} (k : Kind C) (t : Tile C) (s z : Held C) (a : Alike s z) w
   state_alike (Some m) None e = let x : ◌≡◌ {A = ℕ} 0 1 = cc in absurd (omega arith)
 
 module _ {C : Type 0} (k : Kind C) (r : Reading C) where
-  says_alike : (s z : Held C) (e : Entry) (m : Mark) → Alike s z → lines_at k r s e m ≡ lines_at k r z e m
+  says_alike : (s z : Held C) (e : Entry) (m : Mark) → Alike s z → lines_at (telling k) r s e m ≡ lines_at (telling k) r z e m
   says_alike s z e draft a = ap (draft_lines k (entry_grid r e)) a.tiles
   says_alike s z e tile_mark a = ap (λ x. enter_line e.rows e.cols x ∷ []) (answer_alike k (entry_tile r e) s z a)
   says_alike s z e unknown a = refl
 
-  next_alike : (s z : Held C) (e : Entry) (m : Mark) → Alike s z → Alike (state_at k r s e m) (state_at k r z e m)
+  next_alike : (s z : Held C) (e : Entry) (m : Mark) → Alike s z → Alike (state_at (telling k) r s e m) (state_at (telling k) r z e m)
   next_alike s z e draft a = record { tiles = a.tiles; long = a.long }
   next_alike s z e tile_mark a = state_alike k (entry_tile r e) s z a _ _ (refusal_alike k (entry_tile r e) s z a)
   next_alike s z e unknown a = a
 
-  -- the cells held stay in the store
-  pub next_stored : (s : Held C) (e : Entry) (m : Mark) → Stored s → Stored (state_at k r s e m)
-  next_stored s e draft h = h
-  next_stored s e tile_mark h = entered_stored k s (entry_tile r e) h
-  next_stored s e unknown h = h
-
-  entries_alike : (s z : Held C) (es : List Entry) → Alike s z → entries_lines (says k r) (next k r) s es ≡ entries_lines (says k r) (next k r) z es
+  entries_alike : (s z : Held C) (es : List Entry) → Alike s z → entries_lines (says (telling k) r) (next (telling k) r) s es ≡ entries_lines (says (telling k) r) (next (telling k) r) z es
   entries_alike s z [] a = refl
-  entries_alike s z (e ∷ es) a = ap₂ (λ xs ys. xs ++ ys) (says_alike s z e e.mark a) (entries_alike (next k r s e) (next k r z e) es (next_alike s z e e.mark a))
+  entries_alike s z (e ∷ es) a = ap₂ (λ xs ys. xs ++ ys) (says_alike s z e e.mark a) (entries_alike (next (telling k) r s e) (next (telling k) r z e) es (next_alike s z e e.mark a))
 
-  pub file_alike : (s z : Held C) (f : File) → Alike s z → file_lines (says k r) (next k r) s f ≡ file_lines (says k r) (next k r) z f
-  file_alike s z f a = ap (λ ls. ls ++ fault_lines f.fault) (entries_alike s z f.entries a)
+  pub report_alike : (s z : Held C) (bs : List ℕ) → Alike s z → report (says (telling k) r) (next (telling k) r) r s bs ≡ report (says (telling k) r) (next (telling k) r) r z bs
+  report_alike s z bs a = ap (λ ls. cond (ltb 65535 (length bs)) (TooLong ∷ []) (ls ++ fault_lines (file r bs).fault)) (entries_alike s z (file r bs).entries a)

@@ -7,11 +7,10 @@ use Rattle.cells.specs.Readings.{Reading}
 use Rattle.book.specs.Models.{Held, empty}
 use Rattle.book.specs.Entering.{enter_answer, enter_state}
 use Rattle.book.specs.Judging.{found_in, judged}
-use Rattle.records.specs.Marks.{Mark, draft, tile as tile_mark, unknown}
-use Rattle.records.specs.Entries.{Entry}
 use Rattle.lines.specs.declared.Line.{Line}
 use Rattle.lines.specs.declared.Line.TheVariants.{Entered, Refused, Passed, Stopped}
-use Rattle.reports.specs.Reports.{place_line, numbered_lines, entry_grid, entry_tile, report}
+use Rattle.lines.specs.Rendering.{page}
+use Rattle.reports.specs.Reports.{place_line, numbered_lines, Telling, says, next, report as report_from}
 
 -- what enter answered for a tile of so many rows and columns
 abbrev pub enter_line : ℕ → ℕ → Result ℕ ℕ → Line
@@ -32,27 +31,25 @@ module _ {C : Type 0} where
   abbrev pub draft_lines : Kind C → Grid C → List (Tile C) → List Line
   draft_lines k g ts = numbered_lines (place_lines k g) 0 ts ++ (verdict_line g.rows g.cols (found_in k g ts) ∷ [])
 
-  -- the lines of a record with a given mark, where the book and its store are s
-  abbrev pub lines_at : Kind C → Reading C → Held C → Entry → Mark → List Line
-  lines_at k r s e draft = draft_lines k (entry_grid r e) s.tiles
-  lines_at k r s e tile_mark = enter_line e.rows e.cols (enter_answer k s (entry_tile r e)) ∷ []
-  lines_at k r s e unknown = []
+  -- a tile is entered in the book, and a draft is looked over by the tiles held and judged
+  abbrev pub telling : Kind C → Telling C (Held C)
+  telling k = record {
+    tile_lines = λ s t. enter_line t.rows t.cols (enter_answer k s t) ∷ [];
+    tile_state = enter_state k;
+    draft_lines = λ s g. draft_lines k g s.tiles;
+    draft_state = λ s g. judged k g s;
+  }
 
-  -- the book and its store after a record with a given mark
-  abbrev pub state_at : Kind C → Reading C → Held C → Entry → Mark → Held C
-  state_at k r s e draft = judged k (entry_grid r e) s
-  state_at k r s e tile_mark = enter_state k s (entry_tile r e)
-  state_at k r s e unknown = s
-
-  -- what a record adds to the lines
-  abbrev pub says : Kind C → Reading C → Held C → Entry → List Line
-  says k r s e = lines_at k r s e e.mark
-
-  -- what a record makes of the book and its store
-  abbrev pub next : Kind C → Reading C → Held C → Entry → Held C
-  next k r s e = state_at k r s e e.mark
+  -- the lines of an input, from a new book and the store cs
+  abbrev pub report : Kind C → Reading C → List C → List ℕ → List Line
+  report k r cs bs = report_from (says (telling k) r) (next (telling k) r) r (empty cs) bs
 
 -- the lines are the report of the input from a new book and a store of 4,096 cells, whatever these are, and the places in it are exactly the places of each tile
 pub record Answers {C : Type 0} (k : Kind C) (r : Reading C) (bs : List ℕ) (ls : List Line) : Type 0 where
-  pub lines : (store : List C) → length store ≡ 4096 → ls ≡ report (says k r) (next k r) r (empty store) bs
+  pub lines : (store : List C) → length store ≡ 4096 → ls ≡ report k r store bs
+  pub exact : (g : Grid C) (t : Tile C) → Valid t → Exact k g t
+
+-- the text is what is printed of such lines
+pub record Prints {C : Type 0} (k : Kind C) (r : Reading C) (bs text : List ℕ) : Type 0 where
+  pub text_is : (store : List C) → length store ≡ 4096 → text ≡ page (report k r store bs)
   pub exact : (g : Grid C) (t : Tile C) → Valid t → Exact k g t

@@ -24,6 +24,7 @@ enum Kind {
 }
 
 /// The kind that the arguments ask for, if they name an engine and a kind.
+// One match on both words is shorter than a FromStr, whose error nothing would read.
 fn chosen(args: &[String]) -> Option<Kind> {
     let [_, engine, kind] = args else {
         return None;
