@@ -7,7 +7,8 @@ use Rattle.grids.specs.Refusals.{first_failed, unless}
 use Rattle.grids.proofs.Refusing.{failed_first, failed_then, passed, passed_both, unless_ok, unless_err, unless_none, unless_some}
 use Rattle.engine.specs.Finding.{tile_checks}
 use Rattle.engine.proofs.Accepting.{valid_checked}
-use Rattle.book.specs.Models.{Held, tile_area, cells_held, Stored, store_refusal, hand_out_refusal}
+use Rattle.book.specs.Models.{Held, tile_area, cells_held, Stored, hand_out_refusal}
+use Rattle.book.specs.Progress.{store_refusal}
 use Rattle.book.specs.Entering.{times_held, insertion_point, enter_refusal, enter_answer}
 use Rattle.book.specs.Judging.{judge_refusal}
 

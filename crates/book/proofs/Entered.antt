@@ -60,11 +60,11 @@ module _ {C : Type 0} where
   entry_of t = record { rows = t.rows; cols = t.cols; stops = 0 }
 
   -- the model after it, where d has one entry more than b
-  pub held-entered : (b d : Book) (cs ds : List C) (n i j : ℕ) (t : Tile C) → Whole t → sum_by area (sizes b) + tile_area t ≤ length cs → i ≡ sum_by area (take n (sizes b)) → j ≡ sum_by area (sizes b) → entries_held d ≡ insert (entries_held b) n (entry_of t) → is_trimmed d ≡ false → ds ≡ put_items cs i j t.cells → held d ds ≡ entered_at n (held b cs) t
-  held-entered b d cs ds n i j t w r p q es f c =
+  pub held-entered : (b d : Book) (cs ds : List C) (n m i j : ℕ) (t : Tile C) → Whole t → sum_by area (sizes b) + tile_area t ≤ length cs → i ≡ sum_by area (take n (sizes b)) → j ≡ sum_by area (sizes b) → entries_held d ≡ insert (entries_held b) n (entry_of t) → is_trimmed d ≡ false → ds ≡ put_items cs i j t.cells → n ≡ m → held d ds ≡ entered_at m (held b cs) t
+  held-entered b d cs ds n m i j t w r p q es f c number =
       let sized = ap (map size_of) es ∙ map_inserted size_of (entries_held b) n (entry_of t) in
       let stops = ap (map (λ x. x.stops)) es ∙ map_inserted (λ x. x.stops) (entries_held b) n (entry_of t) in
       let put : ds ≡ put_items cs (sum_by area (take n (sizes b))) (sum_by area (sizes b)) t.cells = c ∙ ap₂ (λ l m. put_items cs l m t.cells) p q in
       let g = ap₂ cut sized put ∙ put_tiles (sizes b) cs n t w r in
       let h = put ∙ put_listed (sizes b) cs n t w r in
-      λ l. record { tiles = g l; stops = stops l; trimmed = f l; store = h l }
+      (λ l. record { tiles = g l; stops = stops l; trimmed = f l; store = h l }) ∙ ap (λ l. entered_at l (held b cs) t) number

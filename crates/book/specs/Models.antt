@@ -1,5 +1,5 @@
 -- What a book and its store hold. Assumes nothing.
-use Rattle.std.specs.Prelude.{ℕ, ◌+◌, ◌*◌, ◌≤◌, Bool, true, List, [], ◌∷◌, map, length, take, drop, sum_by, Option, nat_le, nat_lt}
+use Rattle.std.specs.Prelude.{ℕ, ◌*◌, ◌≤◌, Bool, true, List, [], ◌∷◌, map, length, take, drop, sum_by, Option, nat_le, nat_lt}
 use Rattle.grids.specs.Grids.{Tile, tile}
 use Rattle.grids.specs.Refusals.{first_failed}
 use Rattle.book.specs.declared.Book.{Book}
@@ -58,10 +58,6 @@ module _ {C : Type 0} where
   -- the store has at least as many cells as the tiles
   abbrev pub Stored : Held C → Type 0
   Stored s = cells_held s.tiles ≤ length s.store
-
-  -- why a store is refused: it has no room for the cells held and m more
-  abbrev pub store_refusal : Held C → ℕ → Option ℕ
-  store_refusal s m = first_failed ((nat_le (cells_held s.tiles + m) (length s.store), 7) ∷ [])
 
   -- what stands for a tile where there is none
   abbrev pub no_tile : Tile C

@@ -2,8 +2,9 @@
 ghost use Rattle.std.specs.Prelude.{◌≡◌, ◌<◌, not, slice_index_or, ◌==◌};
 ghost use Rattle.grids.specs.Refusals.{unless, numbered_by};
 ghost use Rattle.engine.specs.Views.{viewed};
-ghost use Rattle.book.specs.Models.{held, Stored, store_refusal, no_tile, hand_out_refusal};
+ghost use Rattle.book.specs.Models.{held, Stored, no_tile, hand_out_refusal};
 ghost use Rattle.book.specs.Entering.{times_held, insertion_point};
+ghost use Rattle.book.specs.Progress.{store_refusal};
 
 use crate::Book;
 use book_order::{tile_before, tile_same};

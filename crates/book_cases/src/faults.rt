@@ -1,28 +1,28 @@
 //! Record files with a fault.
-use crate::prints::{DR, Record, TL, Written, push_records, verify_print};
-use crate::table::{Case, verify_all};
+use crate::record_files::{DR, Record, Report, TL, Written, push_records};
+use book_report::book_text;
 use cells::{Lift, Thread};
+use plain::Plain;
 use std::process::Abort;
 use std::test::Fail;
 
-/// A fault: its number, and files of either kind of which each has it.
+/// A fault: its number, and files of which each has it.
 struct Faulty(u8, &'static [&'static [u8]]);
 
-/// A file of lifts whose first record has bytes that read as no lift.
-struct NoLift(&'static [u8]);
+static NOTHING: Report = Report(&[], "");
 
-/// Two tiles, one of them twice, and K.
-static FRONT: [Record; 4] = [
-    Record(TL, 2, 1, b"##", 1),
-    Record(TL, 1, 2, b"##", 1),
-    Record(TL, 1, 2, b"##", 1),
-    Record(DR, 3, 4, b"##...##...##", 1),
-];
+// two tiles, one of them twice, and K
+static FRONT: Report = Report(
+    &[
+        Record(TL, 2, 1, b"##", 1),
+        Record(TL, 1, 2, b"##", 1),
+        Record(TL, 1, 2, b"##", 1),
+        Record(DR, 3, 4, b"##...##...##", 1),
+    ],
+    "tile 2 1 at 0\ntile 1 2 at 0\nrefused 3\n0 0 0\n0 1 1\n0 2 2\n1 0 1\n1 1 2\ndraft 3 4 stopped 2\n",
+);
 
-/// What is printed of them.
-const FRONT_LINES: &str =
-    "tile 2 1 at 0\ntile 1 2 at 0\nrefused 3\n0 0 0\n0 1 1\n0 2 2\n1 0 1\n1 1 2\ndraft 3 4 stopped 2\n";
-
+// in files of either kind
 static FAULTS: [Faulty; 4] = [
     Faulty(
         1,
@@ -72,64 +72,49 @@ static FAULTS: [Faulty; 4] = [
     ),
 ];
 
-static NO_LIFTS: [NoLift; 4] = [
-    NoLift(b"DR\x01\x00\x02\x00X#"),
-    NoLift(b"TL\x01\x00\x02\x00#X"),
-    NoLift(b"TL\x01\x00\x01\x00\x05\x00\x01"),
-    // what follows is not read
-    NoLift(b"TL\x02\x00\x01\x00#\x00DR\x01\x00\x01\x00#"),
-];
+// in files of lifts, whose first record has bytes that read as no lift
+static NO_LIFTS: Faulty = Faulty(
+    12,
+    &[
+        b"DR\x01\x00\x02\x00X#",
+        b"TL\x01\x00\x02\x00#X",
+        b"TL\x01\x00\x01\x00\x05\x00\x01",
+        // what follows is not read
+        b"TL\x02\x00\x01\x00#\x00DR\x01\x00\x01\x00#",
+    ],
+);
 
 // Checks a fault after some records.
 fn verify_after<C: Written>(
     rt: &(impl Abort + AllocGlobal),
-    at: &str,
-    records: &[Record],
-    lines: &str,
-    rest: &[u8],
-    number: u8,
+    front: &Report,
+    fault: &Faulty,
 ) -> Result<(), Fail> {
     let heap = rt.alloc();
-    let mut file = Vec::new(heap);
-    push_records::<C>(&mut file, records)?;
-    let byte = file.len();
-    file.extend_from_slice(rest)?;
-    let text = format!(in heap; "{lines}fault {number} at {byte}\n")?;
-    verify_print::<C>(rt, at, file.as_slice(), text.as_str())
+    let Report(records, lines) = front;
+    let Faulty(number, files) = fault;
+    for (i, rest) in files.iter().enumerate() {
+        let mut file = Vec::new(heap);
+        push_records::<C>(&mut file, records)?;
+        let text = format!(in heap; "{lines}fault {number} at {}\n", file.len())?;
+        file.extend_from_slice(rest)?;
+        let got = book_text::<C, Plain>(heap, &Plain, file.as_slice())?;
+        assert_eq!(rt; got.as_str(), text.as_str(), "fault {number}, file {i}");
+    }
+    Ok(())
 }
 
 // Checks a fault in the first record and after others.
-fn verify_fault<C: Written>(
-    rt: &(impl Abort + AllocGlobal),
-    at: &str,
-    file: &[u8],
-    number: u8,
-) -> Result<(), Fail> {
-    verify_after::<C>(rt, at, &[], "", file, number)?;
-    verify_after::<C>(rt, at, &FRONT, FRONT_LINES, file, number)
-}
-
-impl Case for Faulty {
-    fn verify(&self, rt: &(impl Abort + AllocGlobal), at: &str) -> Result<(), Fail> {
-        let Faulty(number, files) = self;
-        for (i, file) in files.iter().enumerate() {
-            let at = format!(in rt.alloc(); "{at}, file {i}")?;
-            verify_fault::<Lift>(rt, at.as_str(), *file, *number)?;
-            verify_fault::<Thread>(rt, at.as_str(), *file, *number)?;
-        }
-        Ok(())
-    }
-}
-
-impl Case for NoLift {
-    fn verify(&self, rt: &(impl Abort + AllocGlobal), at: &str) -> Result<(), Fail> {
-        let NoLift(file) = self;
-        verify_fault::<Lift>(rt, at, *file, 12)
-    }
+fn verify_fault<C: Written>(rt: &(impl Abort + AllocGlobal), fault: &Faulty) -> Result<(), Fail> {
+    verify_after::<C>(rt, &NOTHING, fault)?;
+    verify_after::<C>(rt, &FRONT, fault)
 }
 
 #[test]
 fn faults_end_the_lines(rt: HostRuntime) -> Result<(), Fail> {
-    verify_all(&rt, &FAULTS)?;
-    verify_all(&rt, &NO_LIFTS)
+    for fault in &FAULTS {
+        verify_fault::<Lift>(&rt, fault)?;
+        verify_fault::<Thread>(&rt, fault)?;
+    }
+    verify_fault::<Lift>(&rt, &NO_LIFTS)
 }

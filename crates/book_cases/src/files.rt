@@ -1,12 +1,10 @@
 //! Record files, and what is printed of them.
-use crate::prints::{DR, Record, TL, Written, push_records, verify_print};
-use crate::table::{Case, verify_all};
+use crate::record_files::{DR, Record, Report, TL, Written, push_records};
+use book_report::book_text;
 use cells::{Lift, Thread};
+use plain::Plain;
 use std::process::Abort;
 use std::test::Fail;
-
-/// The records of a file, and what is printed of it, whichever kind they are written in.
-struct Report(&'static [Record], &'static str);
 
 /// A file of threads, and what is printed of it.
 struct Threads(&'static [u8], &'static str);
@@ -153,34 +151,33 @@ static THREADS: [Threads; 6] = [
     ),
 ];
 
-fn verify_records<C: Written>(
+fn verify_report<C: Written>(
     rt: &(impl Abort + AllocGlobal),
-    at: &str,
+    at: usize,
     report: &Report,
 ) -> Result<(), Fail> {
     let Report(records, text) = report;
     let heap = rt.alloc();
     let mut file = Vec::new(heap);
-    push_records::<C>(&mut file, *records)?;
-    verify_print::<C>(rt, at, file.as_slice(), *text)
+    push_records::<C>(&mut file, records)?;
+    let got = book_text::<C, Plain>(heap, &Plain, file.as_slice())?;
+    assert_eq!(rt; got.as_str(), *text, "case {at}");
+    Ok(())
 }
 
-impl Case for Report {
-    fn verify(&self, rt: &(impl Abort + AllocGlobal), at: &str) -> Result<(), Fail> {
-        verify_records::<Lift>(rt, at, self)?;
-        verify_records::<Thread>(rt, at, self)
+fn verify_threads(rt: &(impl Abort + AllocGlobal)) -> Result<(), Fail> {
+    for (i, Threads(file, text)) in THREADS.iter().enumerate() {
+        let got = book_text::<Thread, Plain>(rt.alloc(), &Plain, file)?;
+        assert_eq!(rt; got.as_str(), *text, "case {i} of threads");
     }
-}
-
-impl Case for Threads {
-    fn verify(&self, rt: &(impl Abort + AllocGlobal), at: &str) -> Result<(), Fail> {
-        let Threads(file, text) = self;
-        verify_print::<Thread>(rt, at, *file, *text)
-    }
+    Ok(())
 }
 
 #[test]
 fn files_print_their_lines(rt: HostRuntime) -> Result<(), Fail> {
-    verify_all(&rt, &REPORTS)?;
-    verify_all(&rt, &THREADS)
+    for (i, report) in REPORTS.iter().enumerate() {
+        verify_report::<Lift>(&rt, i, report)?;
+        verify_report::<Thread>(&rt, i, report)?;
+    }
+    verify_threads(&rt)
 }

@@ -1,10 +1,7 @@
 //! What judge answers, and the stop counts that it leaves.
-use crate::table::{Case, verify_all};
 use book::Book;
-use cells::{Cell, Lift};
-use drafts::OverBytes;
+use cells::Lift;
 use engine::TileView;
-use grids::Refusal;
 use plain::Plain;
 use readings::read_cells;
 use sheets::ByteSheet;
@@ -63,84 +60,60 @@ static JUDGED: [Judged; 6] = [
     ),
 ];
 
-// Enters a tile whose cells are read from bytes.
-fn enter<C: Cell>(
-    book: &mut Book,
-    store: &mut [C],
-    tile: &Drawn,
-    cells: &mut [C],
-) -> Result<usize, Refusal> {
-    let Drawn(rows, cols, bytes) = tile;
-    read_cells(bytes.len(), *bytes, cells)?;
-    let view = TileView {
-        rows: *rows,
-        cols: *cols,
-        cells: &*cells,
-    };
-    book.enter(store, &view)
-}
-
 // Enters tiles, each of which takes the next number.
-fn enter_all<C: Cell + Clone + Default>(
+fn enter_all(
     rt: &(impl Abort + AllocGlobal),
-    at: &str,
+    at: usize,
     book: &mut Book,
-    store: &mut [C],
+    store: &mut [Lift],
     tiles: &[Drawn],
 ) -> Result<(), Fail> {
-    for (n, tile) in tiles.iter().enumerate() {
-        let Drawn(_, _, bytes) = tile;
-        let mut cells = vec![in rt.alloc(); C::default(); bytes.len()]?;
-        assert!(rt;
-            enter(book, store, tile, cells.as_mut_slice()) == Ok(n),
-            "{at}"
-        );
+    for (n, Drawn(rows, cols, bytes)) in tiles.iter().enumerate() {
+        let mut cells = vec![in rt.alloc(); Lift::default(); bytes.len()]?;
+        read_cells(bytes.len(), bytes, cells.as_mut_slice())?;
+        let tile = TileView {
+            rows: *rows,
+            cols: *cols,
+            cells: cells.as_slice(),
+        };
+        assert!(rt; book.enter(store, &tile) == Ok(n), "case {at}");
     }
     Ok(())
 }
 
-// Judges a draft whose cells are read from bytes; answers the tiles found and the looks.
-fn judge<C: Cell>(
-    book: &mut Book,
-    store: &[C],
-    draft: &Drawn,
-    work: &mut [u32],
-) -> Result<(usize, u64), Refusal> {
-    let Drawn(rows, cols, bytes) = draft;
-    let made: Result<ByteSheet<C>, Refusal> = <ByteSheet<'_, _> as OverBytes<'_, _>>::over(
-        *rows, *cols, *bytes,
-    );
-    let mut sheet = made?;
-    let verdict = book.judge(store, &Plain, &mut sheet, work)?;
-    Ok((verdict.found, verdict.looks))
-}
-
 // Checks the stop count of each tile, each raised so many times.
-fn verify_stops(rt: &(impl Abort + AllocGlobal), at: &str, book: &Book, stops: &[u16], times: u16) {
+fn verify_stops(rt: &impl Abort, at: usize, book: &Book, stops: &[u16], times: u16) {
     for (n, count) in stops.iter().enumerate() {
-        assert!(rt; book.stops(n) == Ok(count.saturating_mul(times)), "{at}");
+        assert!(rt;
+            book.stops(n) == Ok(count.saturating_mul(times)),
+            "case {at}"
+        );
     }
-    assert!(rt; book.count() == stops.len(), "{at}");
+    assert!(rt; book.count() == stops.len(), "case {at}");
 }
 
-impl Case for Judged {
-    fn verify(&self, rt: &(impl Abort + AllocGlobal), at: &str) -> Result<(), Fail> {
-        let Judged(tiles, draft, found, looks, stops) = self;
-        let heap = rt.alloc();
-        let mut store = vec![in heap; Lift::default(); 64]?;
-        let mut work = vec![in heap; 7u32; 12288]?;
-        let mut book = Book::new();
-        enter_all(rt, at, &mut book, store.as_mut_slice(), *tiles)?;
-        for times in 1..3u16 {
-            let answer = judge(&mut book, store.as_slice(), draft, work.as_mut_slice());
-            assert!(rt; answer == Ok((*found, *looks)), "{at}");
-            verify_stops(rt, at, &book, *stops, times);
-        }
-        Ok(())
+fn verify_judged(rt: &(impl Abort + AllocGlobal), at: usize, case: &Judged) -> Result<(), Fail> {
+    let Judged(tiles, Drawn(rows, cols, bytes), found, looks, stops) = case;
+    let heap = rt.alloc();
+    let mut store = vec![in heap; Lift::default(); 64]?;
+    let mut work = vec![in heap; 7u32; 12288]?;
+    let mut book = Book::new();
+    enter_all(rt, at, &mut book, store.as_mut_slice(), tiles)?;
+    for times in 1..3u16 {
+        let mut draft = ByteSheet::<Lift>::over(*rows, *cols, bytes)?;
+        let answer = book
+            .judge(store.as_slice(), &Plain, &mut draft, work.as_mut_slice())
+            .map(|verdict| (verdict.found, verdict.looks));
+        assert!(rt; answer == Ok((*found, *looks)), "case {at}");
+        verify_stops(rt, at, &book, stops, times);
     }
+    Ok(())
 }
 
 #[test]
 fn judge_counts_tiles_and_looks_and_raises_stop_counts(rt: HostRuntime) -> Result<(), Fail> {
-    verify_all(&rt, &JUDGED)
+    for (i, case) in JUDGED.iter().enumerate() {
+        verify_judged(&rt, i, case)?;
+    }
+    Ok(())
 }

@@ -11,6 +11,4 @@ mod judges;
 #[cfg(test)]
 mod limits;
 #[cfg(test)]
-mod prints;
-#[cfg(test)]
-mod table;
+mod record_files;

@@ -1,7 +1,8 @@
 //! Full books, full stores, many places and long files.
-use crate::prints::{DR, Record, TL, Written, push_record, push_records, verify_print};
-use crate::table::{Case, verify_all};
+use crate::record_files::{DR, Record, TL, Written, push_record, push_records};
+use book_report::book_text;
 use cells::{Lift, Thread};
+use plain::Plain;
 use std::fmt;
 use std::process::Abort;
 use std::test::Fail;
@@ -14,14 +15,8 @@ struct Filled(u16, &'static [Record], &'static str);
 /// `#`, and of the tile of 2 rows and 1 column `##`.
 struct Places((u16, u16), u16, u16);
 
-/// A kind of cells.
-enum Kind {
-    Lifts,
-    Threads,
-}
-
-/// The kind of a file, its front, how often the byte `#` follows, and what is printed of the file.
-struct Long(Kind, &'static [u8], usize, &'static str);
+/// The front of a file, how often the byte `#` follows, and what is printed of the file.
+struct Long(&'static [u8], usize, &'static str);
 
 static FILLED: [Filled; 6] = [
     // 32 tiles, then another and one that is held
@@ -113,62 +108,52 @@ static PLACES: [Places; 7] = [
     Places((3, 64), 1, 1),
 ];
 
-static LONG_FILES: [Long; 8] = [
+static LONG_LIFTS: [Long; 5] = [
     // 65,535 bytes, and one more
-    Long(Kind::Lifts, b"", 65535, "fault 10 at 0\n"),
-    Long(Kind::Lifts, b"", 65536, "too long\n"),
+    Long(b"", 65535, "fault 10 at 0\n"),
+    Long(b"", 65536, "too long\n"),
     Long(
-        Kind::Lifts,
         b"TL\x01\x00\x01\x00.DR\xb5\x00\x6a\x01",
         65522,
         "tile 1 1 at 0\ndraft 181 362 passed\n",
     ),
     Long(
-        Kind::Lifts,
         b"TL\x01\x00\x01\x00.DR\xb5\x00\x6a\x01",
         65523,
         "too long\n",
     ),
+    // 2,048 rows
+    Long(b"DR\x00\x08\x01\x00", 2048, "draft 2048 1 passed\n"),
+];
+
+static LONG_THREADS: [Long; 3] = [
+    // 65,535 bytes, and one more
     Long(
-        Kind::Threads,
         b"TL\x01\x00\x01\x00\x05\x00\x01DR\x78\x00\xb6\x00",
         65520,
         "tile 1 1 at 0\ndraft 120 182 passed\n",
     ),
     Long(
-        Kind::Threads,
         b"TL\x01\x00\x01\x00\x05\x00\x01DR\x78\x00\xb6\x00",
         65521,
         "too long\n",
     ),
-    // 2,048 rows and 2,048 columns
-    Long(
-        Kind::Lifts,
-        b"DR\x00\x08\x01\x00",
-        2048,
-        "draft 2048 1 passed\n",
-    ),
-    Long(
-        Kind::Threads,
-        b"DR\x01\x00\x00\x08",
-        6144,
-        "draft 1 2048 passed\n",
-    ),
+    // 2,048 columns
+    Long(b"DR\x01\x00\x00\x08", 6144, "draft 1 2048 passed\n"),
 ];
 
 // Adds tiles of 1 row, from so many columns down to 1, and the line of each.
 fn push_rows<C: Written>(file: &mut Vec<u8>, text: &mut String, tiles: u16) -> Result<(), Fail> {
-    for n in 0..tiles {
-        let cols = tiles - n;
+    for cols in (1..=tiles).rev() {
         push_record::<C>(file, &Record(TL, 1, cols, b".", cols as usize))?;
-        write!(text, "tile 1 {cols} at 0\n")?;
+        writeln!(text, "tile 1 {cols} at 0")?;
     }
     Ok(())
 }
 
 fn verify_filled<C: Written>(
     rt: &(impl Abort + AllocGlobal),
-    at: &str,
+    at: usize,
     case: &Filled,
 ) -> Result<(), Fail> {
     let Filled(tiles, records, lines) = case;
@@ -178,13 +163,15 @@ fn verify_filled<C: Written>(
     push_rows::<C>(&mut file, &mut text, *tiles)?;
     push_records::<C>(&mut file, *records)?;
     text.push_str(*lines)?;
-    verify_print::<C>(rt, at, file.as_slice(), text.as_str())
+    let got = book_text::<C, Plain>(heap, &Plain, file.as_slice())?;
+    assert_eq!(rt; got.as_str(), text.as_str(), "case {at}");
+    Ok(())
 }
 
 // Adds the lines of places at every position of a row.
 fn push_row_places(text: &mut String, tile: u8, row: u16, cols: u16) -> Result<(), fmt::Error> {
     for col in 0..cols {
-        write!(text, "{tile} {row} {col}\n")?;
+        writeln!(text, "{tile} {row} {col}")?;
     }
     Ok(())
 }
@@ -199,7 +186,7 @@ fn push_places(text: &mut String, tile: u8, rows: u16, cols: u16) -> Result<(), 
 
 fn verify_places<C: Written>(
     rt: &(impl Abort + AllocGlobal),
-    at: &str,
+    at: usize,
     case: &Places,
 ) -> Result<(), Fail> {
     let Places((rows, cols), first, second) = case;
@@ -214,48 +201,43 @@ fn verify_places<C: Written>(
     let mut text = String::from_str(heap, "tile 1 1 at 0\ntile 2 1 at 1\n")?;
     push_places(&mut text, 0, *first, *cols)?;
     push_places(&mut text, 1, *second, *cols)?;
-    write!(text, "draft {rows} {cols} stopped 2\n")?;
-    verify_print::<C>(rt, at, file.as_slice(), text.as_str())
+    writeln!(text, "draft {rows} {cols} stopped 2")?;
+    let got = book_text::<C, Plain>(heap, &Plain, file.as_slice())?;
+    assert_eq!(rt; got.as_str(), text.as_str(), "case {at}");
+    Ok(())
 }
 
-impl Case for Filled {
-    fn verify(&self, rt: &(impl Abort + AllocGlobal), at: &str) -> Result<(), Fail> {
-        verify_filled::<Lift>(rt, at, self)?;
-        verify_filled::<Thread>(rt, at, self)
-    }
-}
-
-impl Case for Places {
-    fn verify(&self, rt: &(impl Abort + AllocGlobal), at: &str) -> Result<(), Fail> {
-        verify_places::<Lift>(rt, at, self)?;
-        verify_places::<Thread>(rt, at, self)
-    }
-}
-
-impl Case for Long {
-    fn verify(&self, rt: &(impl Abort + AllocGlobal), at: &str) -> Result<(), Fail> {
-        let Long(kind, front, count, text) = self;
-        let heap = rt.alloc();
+fn verify_long<C: Written>(rt: &(impl Abort + AllocGlobal), files: &[Long]) -> Result<(), Fail> {
+    let heap = rt.alloc();
+    for (i, Long(front, count, text)) in files.iter().enumerate() {
         let mut file = front.to_vec(heap)?;
         file.extend_from_slice(vec![in heap; b'#'; *count]?.as_slice())?;
-        match kind {
-            Kind::Lifts => verify_print::<Lift>(rt, at, file.as_slice(), *text),
-            Kind::Threads => verify_print::<Thread>(rt, at, file.as_slice(), *text),
-        }
+        let got = book_text::<C, Plain>(heap, &Plain, file.as_slice())?;
+        assert_eq!(rt; got.as_str(), *text, "case {i}");
     }
+    Ok(())
 }
 
 #[test]
 fn books_and_stores_are_filled_up_to_their_limits(rt: HostRuntime) -> Result<(), Fail> {
-    verify_all(&rt, &FILLED)
+    for (i, case) in FILLED.iter().enumerate() {
+        verify_filled::<Lift>(&rt, i, case)?;
+        verify_filled::<Thread>(&rt, i, case)?;
+    }
+    Ok(())
 }
 
 #[test]
 fn at_most_64_places_of_each_tile_are_printed(rt: HostRuntime) -> Result<(), Fail> {
-    verify_all(&rt, &PLACES)
+    for (i, case) in PLACES.iter().enumerate() {
+        verify_places::<Lift>(&rt, i, case)?;
+        verify_places::<Thread>(&rt, i, case)?;
+    }
+    Ok(())
 }
 
 #[test]
 fn files_are_read_up_to_65535_bytes(rt: HostRuntime) -> Result<(), Fail> {
-    verify_all(&rt, &LONG_FILES)
+    verify_long::<Lift>(&rt, &LONG_LIFTS)?;
+    verify_long::<Thread>(&rt, &LONG_THREADS)
 }

@@ -1,10 +1,12 @@
 -- The places of the held tiles in a draft, one tile after another.
-use Rattle.std.proofs.Common.{◌≡◌, ℕ, ◌+◌, ◌<◌, ◌≤◌, min, cond, List, [], ◌∷◌, ◌++◌, map, length, get_or, take, Ok, refl, ap, ◌∙◌, ap₂, arith}
+use Rattle.std.proofs.Common.{◌≡◌, ℕ, ◌+◌, ◌<◌, ◌≤◌, min, cond, List, [], ◌∷◌, ◌++◌, map, length, get_or, take, Ok, Result, sym, refl, ap, ◌∙◌, ap₂, arith}
 use Rattle.std.proofs.lemmas.List.{nil_from_length, take_all}
 use Rattle.std.proofs.lemmas.List.Sums.{sum_by-cons}
 use Rattle.std.proofs.lemmas.Bool.Decides.{nat_tests}
 use Rattle.grids.specs.declared.Found.{Found}
 use Rattle.grids.specs.declared.Position.{Position}
+use Rattle.grids.specs.declared.Refusal.{Refusal}
+use Rattle.grids.specs.Refusals.{numbered}
 use Rattle.grids.specs.Kinds.{Kind}
 use Rattle.grids.specs.Grids.{Grid, Tile, laid}
 use Rattle.grids.specs.Places.{places, has_place}
@@ -26,10 +28,10 @@ pub record Pushed {C : Type 0} (k : Kind C) (g h : Grid C) (s z : Held C) (n : �
 
 module _ {C : Type 0} {k : Kind C} {g h : Grid C} {s z : Held C} {n : ℕ} {old mid : List Line} (p : Pushed k g h s z n old mid) where
   -- its places were found, and those that the list has room for added
-  pub pushed_more : (rule : Rule C) (t : Tile C) (w m : ℕ) (f : Found) (list new : List Position) {j : Grid C} {more : List Line} → n < length s.tiles → t ≡ get_or s.tiles n no_tile → Ok f ≡ find_answer k rule h t w → new ≡ find_list k h t w list → length list ≡ 64 → m ≡ min f.places (length new) → j ≡ h → more ≡ mid ++ map (place_line n) (take m new) → Pushed k g j s z (n + 1) old more
-  pushed_more rule t w m f list new {j} {more} l i answer listing long few e a =
+  pub pushed_more : (rule : Rule C) (t : Tile C) (w m : ℕ) (r : Result Found Refusal) (f : Found) (list new : List Position) {j : Grid C} {more : List Line} → n < length s.tiles → t ≡ get_or s.tiles n no_tile → r ≡ Ok f → numbered r ≡ find_answer k rule h t w → new ≡ find_list k h t w list → length list ≡ 64 → m ≡ min f.places (length new) → j ≡ h → more ≡ mid ++ map (place_line n) (take m new) → Pushed k g j s z (n + 1) old more
+  pushed_more rule t w m r f list new {j} {more} l i ok answer listing long few e a =
       let shown : take m new ≡ take 64 (places k g (laid (get_or s.tiles n no_tile))) =
-      places_shown k rule h t w f list new answer listing m few
+      places_shown k rule h t w f list new (ap numbered (sym ok) ∙ answer) listing m few
       ∙ (ap₂ (λ u x. take u (places k x (laid t))) long p.same ∙ ap (λ u. take 64 (places k g (laid u))) i) in
       record {
         state = p.state;

@@ -1,5 +1,5 @@
 -- What the store held at first changes no line.
-use Rattle.std.proofs.Common.{◌≡◌, ℕ, ◌+◌, cond, eqb, ltb, leb, List, [], ◌∷◌, ◌++◌, length, Some, None, Option, sym, refl, ap, ◌∙◌, ap₂, arith}
+use Rattle.std.proofs.Common.{◌≡◌, ℕ, ◌+◌, cond, eqb, ltb, leb, List, [], ◌∷◌, ◌++◌, length, Some, None, Option, sym, refl, ap, ◌∙◌, ap₂, subst}
 use Rattle.std.specs.List.{insert}
 use Rattle.grids.specs.Kinds.{Kind}
 use Rattle.grids.specs.Grids.{Tile}
@@ -8,7 +8,7 @@ use Rattle.grids.proofs.Writing.{length-listed}
 use Rattle.cells.specs.Readings.{Reading}
 use Rattle.engine.specs.Finding.{tile_checks}
 use Rattle.book.specs.Models.{Held, tile_area, cells_held}
-use Rattle.book.specs.Entering.{times_held, insertion_point, all_cells, enter_refusal, entered, enter_answer}
+use Rattle.book.specs.Entering.{times_held, insertion_point, all_cells, enter_refusal, entered, enter_answer, enter_state}
 use Rattle.records.specs.Marks.{Mark, draft, tile as tile_mark, unknown}
 use Rattle.records.specs.Entries.{Entry}
 use Rattle.records.specs.Files.{file}
@@ -33,11 +33,14 @@ module _ {C : Type 0} (k : Kind C) (t : Tile C) (s z : Held C) (a : Alike s z) w
       let f : List (Tile C) → List (Tile C) = λ ts. insert ts (insertion_point k t ts) t in
       record { tiles = ap f a.tiles; long = length-listed (all_cells (f s.tiles)) s.store ∙ (a.long ∙ sym (length-listed (all_cells (f z.tiles)) z.store)) }
 
-  state_alike : (o p : Option ℕ) → o ≡ p → Alike (kept_or o s (entered k s t)) (kept_or p z (entered k z t))
-  state_alike None None e = entered_alike
-  state_alike (Some m) (Some n) e = a
-  state_alike None (Some n) e = let x : ◌≡◌ {A = ℕ} 0 1 = cc in absurd (omega arith)
-  state_alike (Some m) None e = let x : ◌≡◌ {A = ℕ} 0 1 = cc in absurd (omega arith)
+  kept_alike : (o : Option ℕ) → Alike (kept_or o s (entered k s t)) (kept_or o z (entered k z t))
+  kept_alike None = entered_alike
+  kept_alike (Some m) = a
+
+  state_alike : Alike (enter_state k s t) (enter_state k z t)
+  state_alike =
+      let A : Option ℕ → Type 0 = λ o. Alike (enter_state k s t) (kept_or o z (entered k z t)) in
+      subst A refusal_alike (kept_alike (enter_refusal k s t))
 
 module _ {C : Type 0} (k : Kind C) (r : Reading C) where
   says_alike : (s z : Held C) (e : Entry) (m : Mark) → Alike s z → lines_at (telling k) r s e m ≡ lines_at (telling k) r z e m
@@ -47,7 +50,7 @@ module _ {C : Type 0} (k : Kind C) (r : Reading C) where
 
   next_alike : (s z : Held C) (e : Entry) (m : Mark) → Alike s z → Alike (state_at (telling k) r s e m) (state_at (telling k) r z e m)
   next_alike s z e draft a = record { tiles = a.tiles; long = a.long }
-  next_alike s z e tile_mark a = state_alike k (entry_tile r e) s z a _ _ (refusal_alike k (entry_tile r e) s z a)
+  next_alike s z e tile_mark a = state_alike k (entry_tile r e) s z a
   next_alike s z e unknown a = a
 
   entries_alike : (s z : Held C) (es : List Entry) → Alike s z → entries_lines (says (telling k) r) (next (telling k) r) s es ≡ entries_lines (says (telling k) r) (next (telling k) r) z es

@@ -37,7 +37,7 @@ pub fn book_report<C: Cell + Clone + Default, E: Engine<C>>(
     report_file(heap, &mut report, input)
 }
 
-/// The text of that report.
+/// The lines of `book_report` as text.
 pub fn book_text<C: Cell + Clone + Default, E: Engine<C>>(
     heap: Global,
     engine: &E,
@@ -59,7 +59,7 @@ struct BookReport<'e, C, E> {
     ghost stored: { Stored (held book store.items) },
 }
 
-impl<'e, C: Cell, E: Engine<C>> Report<C> for BookReport<'e, C, E> {
+impl<C: Cell, E: Engine<C>> Report<C> for BookReport<'_, C, E> {
     ghost State = { Held C };
 
     ghost state = { λ r. held r.book r.store.items };
@@ -96,7 +96,7 @@ impl<'e, C: Cell, E: Engine<C>> Report<C> for BookReport<'e, C, E> {
     }
 }
 
-impl<'e, C: Cell, E: Engine<C>> BookReport<'e, C, E> {
+impl<C: Cell, E: Engine<C>> BookReport<'_, C, E> {
     // Adds the first places of each held tile in a draft, as many as the list has room for.
     fn push_tiles<D: Draft<Cell = C>>(
         &mut self,

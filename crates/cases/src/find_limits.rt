@@ -16,7 +16,8 @@ struct Find(
     (usize, usize, usize),
     usize,
     Result<(usize, u64), Refusal>,
-    [Position; 2],
+    // A pair, since the check takes no table of rows that hold an array of positions.
+    (Position, Position),
 );
 
 /// Why a find in a draft of 40 by 40 is refused: rows, columns and count of cells of the tile, the
@@ -35,33 +36,33 @@ const AT10: Position = Position { row: 1, col: 0 };
 
 static FINDS: [Find; 13] = [
     // three places, two, one and none
-    Find((1, 4), (1, 2, 2), 12288, Ok((3, 6)), [AT00, AT01]),
-    Find((4, 1), (2, 1, 2), 12288, Ok((3, 6)), [AT00, AT10]),
-    Find((2, 1), (1, 1, 1), 12288, Ok((2, 2)), [AT00, AT10]),
-    Find((3, 4), (3, 4, 12), 12288, Ok((1, 12)), [AT00, M]),
-    Find((3, 4), (1, 5, 5), 12288, Ok((0, 0)), [M, M]),
-    Find((3, 4), (4, 1, 4), 12288, Ok((0, 0)), [M, M]),
+    Find((1, 4), (1, 2, 2), 12288, Ok((3, 6)), (AT00, AT01)),
+    Find((4, 1), (2, 1, 2), 12288, Ok((3, 6)), (AT00, AT10)),
+    Find((2, 1), (1, 1, 1), 12288, Ok((2, 2)), (AT00, AT10)),
+    Find((3, 4), (3, 4, 12), 12288, Ok((1, 12)), (AT00, M)),
+    Find((3, 4), (1, 5, 5), 12288, Ok((0, 0)), (M, M)),
+    Find((3, 4), (4, 1, 4), 12288, Ok((0, 0)), (M, M)),
     // the smallest and the largest tiles
-    Find((1, 1), (1, 1, 1), 12288, Ok((1, 1)), [AT00, M]),
-    Find((1, 32), (1, 32, 32), 12288, Ok((1, 32)), [AT00, M]),
-    Find((33, 1), (32, 1, 32), 12288, Ok((2, 64)), [AT00, AT10]),
-    Find((33, 33), (32, 32, 1024), 12288, Ok((4, 4096)), [AT00, AT01]),
+    Find((1, 1), (1, 1, 1), 12288, Ok((1, 1)), (AT00, M)),
+    Find((1, 32), (1, 32, 32), 12288, Ok((1, 32)), (AT00, M)),
+    Find((33, 1), (32, 1, 32), 12288, Ok((2, 64)), (AT00, AT10)),
+    Find((33, 33), (32, 32, 1024), 12288, Ok((4, 4096)), (AT00, AT01)),
     // a word more than is needed
-    Find((33, 33), (32, 32, 1024), 12289, Ok((4, 4096)), [AT00, AT01]),
+    Find((33, 33), (32, 32, 1024), 12289, Ok((4, 4096)), (AT00, AT01)),
     // the largest drafts
     Find(
         (32, 2048),
         (32, 32, 1024),
         12288,
         Ok((2017, 2065408)),
-        [AT00, AT01],
+        (AT00, AT01),
     ),
     Find(
         (2048, 2048),
         (1, 1, 1),
         12288,
         Ok((4194304, 4194304)),
-        [AT00, AT01],
+        (AT00, AT01),
     ),
 ];
 
@@ -108,7 +109,8 @@ fn verify_find<C: Cell + Clone + Default>(
     let mut list = [M; 2];
     let found = find(&mut draft, &tile, work.as_mut_slice(), &mut list);
     let got = found.map(|Found { places, looks }| (places, looks));
-    assert!(rt; got == *answer && list == *listed, "case {at}");
+    let [first, second] = list;
+    assert!(rt; got == *answer && (first, second) == *listed, "case {at}");
     Ok(())
 }
 
@@ -124,7 +126,7 @@ fn finds_answer_all_places_and_list_those_that_fit(rt: HostRuntime) -> Result<()
 #[test]
 fn refused_finds_leave_the_list(rt: HostRuntime) -> Result<(), Fail> {
     for (i, Refused(tile, words, refusal)) in REFUSED.iter().enumerate() {
-        let case = Find((40, 40), *tile, *words, Err(*refusal), [M, M]);
+        let case = Find((40, 40), *tile, *words, Err(*refusal), (M, M));
         verify_find::<Lift>(&rt, i, &case)?;
         verify_find::<Thread>(&rt, i, &case)?;
     }

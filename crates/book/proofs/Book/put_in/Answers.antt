@@ -1,7 +1,5 @@
-use Rattle.std.proofs.Common.{ap, ◌∙◌, arith}
+use Rattle.std.proofs.Common.{arith}
 use Rattle.engine.specs.Views.{viewed}
-use Rattle.book.specs.Models.{held}
-use Rattle.book.specs.Entering.{entered_at}
 use Rattle.book.proofs.Entered.{held-entered}
 use Rattle.book.proofs.Insertions.{taken_in}
 use Rattle.book.proofs.Book.put_in.Goals as goal
@@ -26,5 +24,4 @@ returns g c =
     let n = c.args.number in
     let a = taken_in g.C.Cell.kind b cs t n c.requires.accepted c.requires.number in
     let entry = c.insert_entry.ensures in
-    held-entered b c.insert_entry.new.self cs c.insert.new.list n c.start.result c.cells_held.result t a.2 a.3 c.start.ensures c.cells_held.ensures entry.entries entry.trimmed c.insert.ensures
-    ∙ ap (λ m. entered_at m (held b cs) t) c.requires.number
+    held-entered b c.insert_entry.new.self cs c.insert.new.list n _ c.start.result c.cells_held.result t a.2 a.3 c.start.ensures c.cells_held.ensures entry.entries entry.trimmed c.insert.ensures c.requires.number

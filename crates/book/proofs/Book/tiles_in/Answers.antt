@@ -1,6 +1,7 @@
 use Rattle.std.proofs.Common.{refl, arith}
 use Rattle.grids.proofs.Refusing.{unless_none, unless_some}
-use Rattle.book.specs.Models.{held, sizes, store_refusal}
+use Rattle.book.specs.Models.{held, sizes}
+use Rattle.book.specs.Progress.{store_refusal}
 use Rattle.book.proofs.Cuts.{cells_cut}
 use Rattle.book.proofs.Accepting.{has_room, no_room}
 use Rattle.book.proofs.Book.tiles_in.Goals as goal

@@ -1,5 +1,5 @@
 use Rattle.std.proofs.Common.{◌+◌, ◌-◌, take, drop, arith}
-use Rattle.book.proofs.Tables.{part_within, part_tile, part_valid, part_fits, part_is}
+use Rattle.book.proofs.Tables.{part_within, part_tile, part_fits, part_is}
 use Rattle.book.proofs.held_tiles.HeldTiles.get.Goals as goal
 
 pub overflow_add-view : goal.overflow_add-view
@@ -10,14 +10,6 @@ offset_bounds-self-start g c = omega (arith, part_within c.args.self.now.book.no
 
 pub slice_bounds-view-end : goal.slice_bounds-view-end
 slice_bounds-view-end g c = omega (arith, part_within c.args.self.now.book.now c.args.self.now.store.now c.args.number c.requires c.args.self.now.stored, c.start-start.ensures, c.cells.ensures)
-
-pub invariant_of-result : goal.invariant_of-result
-invariant_of-result g c =
-    let b = c.args.self.now.book.now in
-    let cs = c.args.self.now.store.now in
-    let n = c.args.number in
-    let from = c.start-start.result in
-    record { valid = part_valid b cs n c.requires c.args.self.now.stored (take ((from + c.cells.result) - from) (drop from cs)) (part_is b cs n from c.cells.result c.start-start.ensures c.cells.ensures) }
 
 pub returns : goal.returns
 returns g c =

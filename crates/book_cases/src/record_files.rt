@@ -1,11 +1,9 @@
-//! Record files of both kinds from one table, and checks of what is printed of them.
-use book_report::book_report;
+//! Record files of both kinds from one table.
 use cells::{Cell, Lift, Thread};
-use lines::render;
-use plain::Plain;
 use std::alloc::AllocError;
-use std::process::Abort;
-use std::test::Fail;
+
+/// The records of a file, and what is printed of it, whichever kind they are written in.
+pub(crate) struct Report(pub(crate) &'static [Record], pub(crate) &'static str);
 
 /// A record: its mark, rows and columns, signs `#` and `.` for cells, and how often the signs stand.
 #[derive(Clone, Copy)]
@@ -23,30 +21,29 @@ pub(crate) const TL: &[u8] = b"TL";
 
 /// A kind with two cells for `.` and `#`; the cell for `.` is before the cell for `#`.
 pub(crate) trait Written: Cell + Clone + Default {
-    /// The bytes of the cell that is written as `#` or as `.`.
-    fn written(sign: u8) -> &'static [u8];
+    /// The bytes of the cell for `.`.
+    const DOT: &'static [u8];
+
+    /// The bytes of the cell for `#`.
+    const HASH: &'static [u8];
 }
 
 impl Written for Lift {
-    fn written(sign: u8) -> &'static [u8] {
-        if sign == b'#' { b"#" } else { b"." }
-    }
+    const DOT: &'static [u8] = b".";
+
+    const HASH: &'static [u8] = b"#";
 }
 
 // The two threads have the same code.
 impl Written for Thread {
-    fn written(sign: u8) -> &'static [u8] {
-        if sign == b'#' {
-            b"\x45\x00\x01"
-        } else {
-            b"\x05\x00\x01"
-        }
-    }
+    const DOT: &'static [u8] = b"\x05\x00\x01";
+
+    const HASH: &'static [u8] = b"\x45\x00\x01";
 }
 
 fn push_cells<C: Written>(file: &mut Vec<u8>, cells: &[u8]) -> Result<(), AllocError> {
     for sign in cells {
-        file.extend_from_slice(C::written(*sign))?;
+        file.extend_from_slice(if *sign == b'#' { C::HASH } else { C::DOT })?;
     }
     Ok(())
 }
@@ -57,11 +54,11 @@ pub(crate) fn push_record<C: Written>(
     record: &Record,
 ) -> Result<(), AllocError> {
     let Record(mark, rows, cols, cells, times) = record;
-    file.extend_from_slice(*mark)?;
+    file.extend_from_slice(mark)?;
     file.extend_from_slice(&rows.to_le_bytes())?;
     file.extend_from_slice(&cols.to_le_bytes())?;
     for _ in 0..*times {
-        push_cells::<C>(file, *cells)?;
+        push_cells::<C>(file, cells)?;
     }
     Ok(())
 }
@@ -74,19 +71,5 @@ pub(crate) fn push_records<C: Written>(
     for record in records {
         push_record::<C>(file, record)?;
     }
-    Ok(())
-}
-
-/// Checks what is printed of a file.
-pub(crate) fn verify_print<C: Written>(
-    rt: &(impl Abort + AllocGlobal),
-    at: &str,
-    file: &[u8],
-    text: &str,
-) -> Result<(), Fail> {
-    let heap = rt.alloc();
-    let lines = book_report::<C, Plain>(heap, &Plain, file)?;
-    let printed = render(heap, lines.as_slice())?;
-    assert_eq!(rt; printed.as_str(), text, "{at}");
     Ok(())
 }
