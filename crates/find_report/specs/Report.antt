@@ -7,6 +7,7 @@ use Rattle.cells.specs.Readings.{Reading}
 use Rattle.engine.specs.Rules.{Rule}
 use Rattle.lines.specs.declared.Line.{Line}
 use Rattle.lines.specs.declared.Line.TheVariants.{Tile as TileLine, Draft}
+use Rattle.lines.specs.Rendering.{page}
 use Rattle.reports.specs.Reports.{place_line, numbered_lines, Telling, says, next, report as report_from}
 
 module _ {C : Type 0} where
@@ -34,4 +35,9 @@ module _ {C : Type 0} where
 -- the lines are the report of the input, and the places in it are exactly the places of each tile, each once, in reading order
 pub record Answers {C : Type 0} (k : Kind C) (r : Reading C) (rule : Rule C) (bs : List ℕ) (ls : List Line) : Type 0 where
   pub lines : ls ≡ report k r rule bs
+  pub exact : (g : Grid C) (t : Tile C) → Valid t → Exact k g t
+
+-- the text is what is printed of such lines
+pub record Prints {C : Type 0} (k : Kind C) (r : Reading C) (rule : Rule C) (bs text : List ℕ) : Type 0 where
+  pub text_is : text ≡ page (report k r rule bs)
   pub exact : (g : Grid C) (t : Tile C) → Valid t → Exact k g t

@@ -1,16 +1,16 @@
 //! What the program lookfor answers: bytes in, lines out, for every kind of cells and every engine.
 #![tactic(auto)]
 
-ghost use Rattle.std.specs.Prelude.{◌≡◌, List, [], ◌∷◌, ◌++◌, map, IfOk, OnOk};
+ghost use Rattle.std.specs.Prelude.{◌≡◌, List, [], ◌∷◌, ◌++◌, map, IfOk, OnOk, string_bytes};
 ghost use Rattle.grids.specs.Grids.{Tile};
 ghost use Rattle.reports.specs.Tiles.{shown};
-ghost use Rattle.find_report.specs.Report.{Answers, telling};
+ghost use Rattle.find_report.specs.Report.{Answers, Prints, telling};
 
 use cells::Cell;
 use drafts::Draft;
 use engine::Engine;
 use grids::{Found, Position};
-use lines::Line;
+use lines::{Line, render};
 use reports::{FileTile, Report, WorkTable, push_places, report_file};
 use std::alloc::{AllocError, Global};
 
@@ -30,6 +30,18 @@ pub fn find_report<C: Cell + Clone + Default, E: Engine<C>>(
         tiles: Vec::new(heap),
     };
     report_file(heap, &mut search, input)
+}
+
+/// The text of that report.
+pub fn find_text<C: Cell + Clone + Default, E: Engine<C>>(
+    heap: Global,
+    engine: &E,
+    input: &[u8],
+) -> Result<String, AllocError>
+    ensures { IfOk result (λ s. Prints C.Cell.kind C.Cell.reading E.Engine.rule input.now (string_bytes s)) }
+{
+    let lines = find_report(heap, engine, input)?;
+    render(heap, lines.as_slice())
 }
 
 // What is looked for in a draft: the tiles before it, by an engine with its work table.

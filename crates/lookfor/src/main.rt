@@ -2,8 +2,7 @@
 #![tactic(auto)]
 
 use cells::{Lift, Thread};
-use find_report::find_report;
-use lines::{Line, render};
+use find_report::find_text;
 use plain::Plain;
 use std::alloc::{AllocError, Global};
 use std::env;
@@ -36,28 +35,23 @@ fn chosen(args: &[String]) -> Option<Kind> {
     }
 }
 
-fn answer(heap: Global, kind: Kind, input: &[u8]) -> Result<Vec<Line>, AllocError> {
+fn text(heap: Global, kind: Kind, input: &[u8]) -> Result<String, AllocError> {
     match kind {
-        Kind::Lifts => find_report::<Lift, Plain>(heap, &Plain, input),
-        Kind::Threads => find_report::<Thread, Plain>(heap, &Plain, input),
+        Kind::Lifts => find_text::<Lift, Plain>(heap, &Plain, input),
+        Kind::Threads => find_text::<Thread, Plain>(heap, &Plain, input),
     }
 }
 
-fn run(rt: &HostRuntime) -> anyhow::Result<()> {
+// Reading and printing stand in each program: a shared function for them could promise nothing.
+fn main(rt: HostRuntime) -> anyhow::Result<()> {
     let heap = rt.alloc();
-    let args: Vec<String> = env::args(rt)?.collect(heap)?;
+    let args: Vec<String> = env::args(&rt)?.collect(heap)?;
     let Some(kind) = chosen(args.as_slice()) else {
         rt.println(USAGE)?;
         return Ok(());
     };
     let mut input = Vec::new(heap);
     rt.stdin().take(MOST).read_to_end(&mut input)?;
-    let lines = answer(heap, kind, input.as_slice())?;
-    let text = render(heap, lines.as_slice())?;
-    rt.print(text)?;
+    rt.print(text(heap, kind, input.as_slice())?)?;
     Ok(())
-}
-
-fn main(rt: HostRuntime) -> anyhow::Result<()> {
-    run(&rt)
 }
