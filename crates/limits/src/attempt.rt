@@ -3,7 +3,7 @@ use grids::Refusal;
 use std::alloc::Global;
 use std::fmt;
 
-/// What comes of a call.
+/// What comes of a call, as its line says it.
 #[derive(Clone, Copy)]
 pub(crate) enum Outcome {
     Accepted,
