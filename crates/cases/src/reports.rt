@@ -1,7 +1,6 @@
 //! Record files, and what lookfor prints of them.
 use cells::{Cell, Lift, Thread};
-use find_report::find_report;
-use lines::render;
+use find_report::find_text;
 use plain::Plain;
 use std::alloc::{AllocError, Global};
 use std::process::Abort;
@@ -141,8 +140,7 @@ pub(crate) fn printed<C: Cell + Clone + Default>(
 ) -> Result<String, AllocError> {
     let mut file = front.to_vec(heap)?;
     file.extend_from_slice(rest)?;
-    let lines = find_report::<C, Plain>(heap, &Plain, file.as_slice())?;
-    render(heap, lines.as_slice())
+    find_text::<C, Plain>(heap, &Plain, file.as_slice())
 }
 
 fn verify_reports<C: Cell + Clone + Default>(
