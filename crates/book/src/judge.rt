@@ -41,10 +41,7 @@ fn find_tile<C: Cell, E: Engine<C>, D: Draft<Cell = C>>(
     ensures same { D.Draft.shows draft.new ≡ D.Draft.shows draft.old }
     ensures counts { D.Draft.tally draft.new ≡ raised (D.Draft.tally draft.old) result.looks }
 {
-    let Ok(found) = engine.find(draft, &tile.view, work, &mut []) else {
-        unreachable()
-    };
-    found
+    engine.find(draft, &tile.view, work, &mut []).unwrap()
 }
 
 impl Book {

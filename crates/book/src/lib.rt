@@ -18,6 +18,7 @@ pub struct TableEntry {
 }
 
 /// What judge answers: how many tiles have a place in the draft, and the looks for all tiles.
+// Not Found, which counts places.
 #[derive(Clone, Copy, PartialEq, Eq, Debug)]
 pub struct Verdict {
     pub found: usize,

@@ -104,7 +104,7 @@ impl<C: Cell, E: Engine<C>> BookReport<'_, C, E> {
         lines: &mut Vec<Line>,
     ) -> Result<(), AllocError>
         ensures lines { OnOk result (lines.new.items ≡ lines.old.items ++ numbered_lines (place_lines C.Cell.kind (D.Draft.shows draft.old)) 0 (held self.old.book self.old.store.items).tiles) }
-        ensures same { OnOk result ((D.Draft.shows draft.new) ≡ (D.Draft.shows draft.old)) }
+        ensures same { OnOk result (D.Draft.shows draft.new ≡ D.Draft.shows draft.old) }
         ensures state { OnOk result (held self.new.book self.new.store.items ≡ held self.old.book self.old.store.items) }
     {
         let mut list = [Position::default(); 64];

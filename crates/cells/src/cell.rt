@@ -24,6 +24,7 @@ pub trait Cell: Copy + Ord {
         ensures { result ≡ code self };
 
     /// The cell that the bytes read as.
+    // Not TryFrom: other bytes are no error here, and the promise names the reading.
     fn read(bytes: &[u8]) -> Option<Self>
         ensures { result ≡ reading.reads bytes.now };
 

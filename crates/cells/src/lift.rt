@@ -53,6 +53,7 @@ impl Cell for Lift {
 }
 
 /// What the kind answers through its trait, said by the definitions of lifts alone.
+// One such impl for each kind: a generic function could not name the kind's own definitions.
 impl Lift {
     /// How many bytes a lift takes in a file.
     pub fn bytes() -> usize

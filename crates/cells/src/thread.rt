@@ -48,6 +48,7 @@ impl Cell for Thread {
 }
 
 /// What the kind answers through its trait, said by the definitions of threads alone.
+// As for lifts.
 impl Thread {
     /// How many bytes a thread takes in a file.
     pub fn bytes() -> usize

@@ -26,6 +26,7 @@ pub trait Draft {
         ensures { result ≡ (shows self.now).cols };
 
     /// The cell at a position, and one look more; nothing, and no look, outside.
+    // Whoever is lent a draft promises `same` again: no ghost field can stand beside a `&mut`.
     fn look(&mut self, row: usize, col: usize) -> Option<Self::Cell>
         ensures cell { result ≡ (shows self.old).at row col }
         ensures same { shows self.new ≡ shows self.old }

@@ -38,6 +38,7 @@ pub trait Engine<C: Cell> {
 
     /// Finds the tile in the draft. The list takes the first places in reading order, as many as
     /// fit; what the work table held does not matter.
+    // Both are lent, since the library allocates nothing.
     fn find<D: Draft<Cell = C>>(
         &self,
         draft: &mut D,

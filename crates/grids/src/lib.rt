@@ -56,6 +56,7 @@ pub enum Refusal {
 
 impl Refusal {
     /// The number by which users know the refusal.
+    // Not From: four refusals share a number, so nothing converts back.
     pub fn number(self) -> u8
         ensures { result ≡ number self }
     {

@@ -14,6 +14,7 @@ use readings::all_read;
 use std::marker::Model;
 
 /// The size of a draft or tile, and its cells as they stand in the file.
+// Not a view of a tile: these are bytes, as many for a cell as the kind says.
 #[derive(Clone, Copy)]
 pub struct Body<'a> {
     pub rows: usize,

@@ -22,9 +22,11 @@ pub struct FileTile<C> {
 }
 
 impl<C: Copy> FileTile<C> {
+    ghost use Rattle.reports.specs.Tiles.{shown};
+
     /// The tile, lent.
     pub fn view(&self) -> TileView<'_, C>
-        ensures { viewed result ≡ tile self.now.rows self.now.cols self.now.cells.items }
+        ensures { viewed result ≡ shown self.now }
     {
         TileView {
             rows: self.rows,

@@ -58,8 +58,8 @@ impl<'a, C: Cell> ByteSheet<'a, C> {
     /// Makes a draft over lent file bytes, or refuses: size, length, then a cell whose bytes read as
     /// none.
     pub fn over(rows: usize, cols: usize, bytes: &'a [u8]) -> Result<ByteSheet<'a, C>, Refusal>
-        ensures shows { numbered_by (λ s. (⟦<ByteSheet<'a, C> as Draft>⟧.shows s)) result ≡ unless (bytes_refusal C.Cell.reading rows cols bytes.now) (sheet rows cols (cells_of C.Cell.reading (rows * cols) bytes.now)) }
-        ensures new { numbered_by (λ s. ⟦<ByteSheet<'a, C> as Draft>⟧.tally s) result ≡ unless (bytes_refusal C.Cell.reading rows cols bytes.now) 0 }
+        ensures shows { numbered_by ⟦<ByteSheet<'a, C> as Draft>⟧.shows result ≡ unless (bytes_refusal C.Cell.reading rows cols bytes.now) (sheet rows cols (cells_of C.Cell.reading (rows * cols) bytes.now)) }
+        ensures new { numbered_by ⟦<ByteSheet<'a, C> as Draft>⟧.tally result ≡ unless (bytes_refusal C.Cell.reading rows cols bytes.now) 0 }
     {
         if !sized(rows, cols, 2048) {
             return Err(Refusal::DraftSize);

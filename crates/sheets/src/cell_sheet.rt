@@ -51,8 +51,8 @@ impl<'a, C: Cell> Draft for CellSheet<'a, C> {
 impl<'a, C: Cell> CellSheet<'a, C> {
     /// Makes a draft over lent cells, or refuses: size, then length.
     pub fn over(rows: usize, cols: usize, cells: &'a [C]) -> Result<CellSheet<'a, C>, Refusal>
-        ensures shows { numbered_by (λ s. (⟦<CellSheet<'a, C> as Draft>⟧.shows s)) result ≡ unless (sheet_refusal rows cols (length cells.now)) (sheet rows cols cells.now) }
-        ensures new { numbered_by (λ s. ⟦<CellSheet<'a, C> as Draft>⟧.tally s) result ≡ unless (sheet_refusal rows cols (length cells.now)) 0 }
+        ensures shows { numbered_by ⟦<CellSheet<'a, C> as Draft>⟧.shows result ≡ unless (sheet_refusal rows cols (length cells.now)) (sheet rows cols cells.now) }
+        ensures new { numbered_by ⟦<CellSheet<'a, C> as Draft>⟧.tally result ≡ unless (sheet_refusal rows cols (length cells.now)) 0 }
     {
         if !sized(rows, cols, 2048) {
             return Err(Refusal::DraftSize);
