@@ -27,7 +27,7 @@ pub record Pushed {C : Type 0} (k : Kind C) (g h : Grid C) (s z : Held C) (n : �
   pub lines : new ≡ old ++ numbered_lines (place_lines k g) 0 (take n s.tiles)
 
 module _ {C : Type 0} {k : Kind C} {g h : Grid C} {s z : Held C} {n : ℕ} {old mid : List Line} (p : Pushed k g h s z n old mid) where
-  -- its places were found, and those that the list has room for added
+  -- the next tile was found, and the places that the list has room for were added
   pub pushed_more : (rule : Rule C) (t : Tile C) (w m : ℕ) (r : Result Found Refusal) (f : Found) (list new : List Position) {j : Grid C} {more : List Line} → n < length s.tiles → t ≡ get_or s.tiles n no_tile → r ≡ Ok f → numbered r ≡ find_answer k rule h t w → new ≡ find_list k h t w list → length list ≡ 64 → m ≡ min f.places (length new) → j ≡ h → more ≡ mid ++ map (place_line n) (take m new) → Pushed k g j s z (n + 1) old more
   pushed_more rule t w m r f list new {j} {more} l i ok answer listing long few e a =
       let shown : take m new ≡ take 64 (places k g (laid (get_or s.tiles n no_tile))) =
@@ -39,7 +39,7 @@ module _ {C : Type 0} {k : Kind C} {g h : Grid C} {s z : Held C} {n : ℕ} {old 
         lines = numbered_more (place_lines k g) s.tiles n no_tile old mid more l p.lines (a ∙ ap (λ qs. mid ++ map (place_line n) qs) shown);
       }
 
-  -- there is none
+  -- there is no next tile
   pub pushed_all : length s.tiles ≤ n → mid ≡ old ++ numbered_lines (place_lines k g) 0 s.tiles
   pushed_all l = p.lines ∙ ap (λ ts. old ++ numbered_lines (place_lines k g) 0 ts) (take_all n s.tiles l)
 

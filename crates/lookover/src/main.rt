@@ -14,6 +14,7 @@ fn main(rt: HostRuntime) -> anyhow::Result<()> {
     let heap = rt.alloc();
     let mut input = Vec::new(heap);
     rt.stdin().take(MOST).read_to_end(&mut input)?;
-    rt.print(book_text::<Lift, Plain>(heap, &Plain, input.as_slice())?)?;
+    let text = book_text::<Lift, Plain>(heap, &Plain, input.as_slice())?;
+    rt.print(text)?;
     Ok(())
 }
