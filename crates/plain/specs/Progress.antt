@@ -10,6 +10,16 @@ use Rattle.engine.specs.Views.{viewed}
 use Rattle.plain.specs.declared.Search.{Search}
 use Rattle.plain.specs.Looks.{compared}
 
+-- a search looked n times, from its state a to b, and kept all else
+pub record Looked {C D : Type 0} (shows : D → Grid C) (tally : D → ℕ) (n : ℕ) (a b : Search C D) : Type 0 where
+  pub draft : b.draft.ghost_name ≡ a.draft.ghost_name
+  pub list : b.list ≡ a.list
+  pub tile : b.tile ≡ a.tile
+  pub same : shows b.draft.now ≡ shows a.draft.now
+  pub places : b.found.places ≡ a.found.places
+  pub looks : b.found.looks ≡ a.found.looks + n
+  pub counts : tally b.draft.now ≡ raised (tally a.draft.now) n
+
 module _ {C D : Type 0} (k : Kind C) (shows : D → Grid C) where
   -- the spots at which the tile of a search lies in its draft
   abbrev pub places_at : Search C D → List Position → List Position

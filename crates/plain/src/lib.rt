@@ -10,7 +10,7 @@ ghost use Rattle.drafts.specs.Tallies.{raised};
 ghost use Rattle.engine.specs.Views.{viewed};
 ghost use Rattle.engine.specs.Finding.{find_answer, find_list, find_tally};
 ghost use Rattle.plain.specs.Looks.{compared, plain_rule};
-ghost use Rattle.plain.specs.Progress.{Done};
+ghost use Rattle.plain.specs.Progress.{Done, Looked};
 
 use cells::Cell;
 use drafts::Draft;
@@ -66,14 +66,6 @@ pub fn find<C: Cell, D: Draft<Cell = C>>(
     Plain.find(draft, tile, work, list)
 }
 
-/// Whether a tile agrees with the draft at a position, and how many of its cells were compared.
-// A flag and a count, since a cell that differs is counted too: an enum would have the count twice.
-#[derive(Clone, Copy)]
-struct Comparison {
-    agrees: bool,
-    cells: u64,
-}
-
 /// Looks at one cell of the draft, and says whether it is the given one.
 fn agree_at<C: Cell, D: Draft<Cell = C>>(draft: &mut D, row: usize, col: usize, cell: C) -> bool
     requires { (row < (D.Draft.shows draft.old).rows) × (col < (D.Draft.shows draft.old).cols) }
@@ -87,39 +79,6 @@ fn agree_at<C: Cell, D: Draft<Cell = C>>(draft: &mut D, row: usize, col: usize, 
     }
 }
 
-/// Compares the tile with the draft, its corner at a position, up to the first cell that differs.
-fn compare<C: Cell, D: Draft<Cell = C>>(
-    draft: &mut D,
-    tile: &ValidTile<'_, C>,
-    corner: Position,
-) -> Comparison
-    requires inside { (corner.row + tile.now.view.rows ≤ (D.Draft.shows draft.old).rows) × (corner.col + tile.now.view.cols ≤ (D.Draft.shows draft.old).cols) }
-    ensures agrees { result.agrees ≡ lies C.Cell.kind (D.Draft.shows draft.old) (laid (viewed tile.now.view)) corner }
-    ensures cells { result.cells ≡ compared C.Cell.kind (D.Draft.shows draft.old) (laid (viewed tile.now.view)) corner }
-    ensures few { result.cells ≤ 1024 }
-    ensures same { D.Draft.shows draft.new ≡ D.Draft.shows draft.old }
-    ensures counts { D.Draft.tally draft.new ≡ raised (D.Draft.tally draft.old) result.cells }
-{
-    // By index: with `chunks_exact` a tile of one column took a seventh longer to compare.
-    let cells = tile.view.cells;
-    let mut seen: u64 = 0;
-    let mut agrees = true;
-    'tile: for i in 0..tile.view.rows {
-        for j in 0..tile.view.cols {
-            seen += 1;
-            let cell = cells[i * tile.view.cols + j];
-            if !agree_at(draft, corner.row + i, corner.col + j, cell) {
-                agrees = false;
-                break 'tile;
-            }
-        }
-    }
-    Comparison {
-        agrees,
-        cells: seen,
-    }
-}
-
 /// A search of a draft for a tile, and what it has found so far.
 #[derive(Drop)]
 struct Search<'s, C, D> {
@@ -130,15 +89,42 @@ struct Search<'s, C, D> {
 }
 
 impl<C: Cell, D: Draft<Cell = C>> Search<'_, C, D> {
+    /// Whether the tile agrees with the draft in every cell, its corner at a position. Each cell
+    /// compared, up to the first that differs, is a look.
+    fn agrees(&mut self, corner: Position) -> bool
+        requires inside { (corner.row + self.old.tile.view.rows ≤ (D.Draft.shows self.old.draft.now).rows) × (corner.col + self.old.tile.view.cols ≤ (D.Draft.shows self.old.draft.now).cols) }
+        requires few { self.old.found.looks < 2 ^ 40 }
+        ensures agrees { result ≡ lies C.Cell.kind (D.Draft.shows self.old.draft.now) (laid (viewed self.old.tile.view)) corner }
+        ensures looked { Looked D.Draft.shows D.Draft.tally (compared C.Cell.kind (D.Draft.shows self.old.draft.now) (laid (viewed self.old.tile.view)) corner) self.old self.new }
+        ensures few { self.new.found.looks ≤ self.old.found.looks + 1024 }
+    {
+        // By index: with `chunks_exact` a tile of one column took a seventh longer to compare.
+        let TileView { rows, cols, cells } = self.tile.view;
+        // Lent once: with `self.draft` lent for each cell, a comparison took half as long again.
+        let draft = &mut *self.draft;
+        let mut looks: u64 = 0;
+        let mut agrees = true;
+        'tile: for i in 0..rows {
+            for j in 0..cols {
+                looks += 1;
+                let cell = cells[i * cols + j];
+                if !agree_at(draft, corner.row + i, corner.col + j, cell) {
+                    agrees = false;
+                    break 'tile;
+                }
+            }
+        }
+        self.found.looks += looks;
+        agrees
+    }
+
     /// Tries one alignment.
     fn spot(&mut self, corner: Position)
         requires inside { (corner.row + self.old.tile.view.rows ≤ (D.Draft.shows self.old.draft.now).rows) × (corner.col + self.old.tile.view.cols ≤ (D.Draft.shows self.old.draft.now).cols) }
         requires few { (self.old.found.places < 2 ^ 32) × (self.old.found.looks < 2 ^ 40) }
         ensures { Done C.Cell.kind D.Draft.shows D.Draft.tally (corner ∷ []) self.old self.new }
     {
-        let comparison = compare(self.draft, &self.tile, corner);
-        self.found.looks += comparison.cells;
-        if comparison.agrees {
+        if self.agrees(corner) {
             engine::note(self.list, self.found.places, corner);
             self.found.places += 1;
         }
