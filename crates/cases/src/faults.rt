@@ -1,5 +1,5 @@
 //! Record files with a fault, and the order in which the reader checks.
-use crate::reports::{K, printed};
+use crate::files::{K, printed};
 use cells::Lift;
 use std::process::Abort;
 use std::test::Fail;

@@ -9,6 +9,6 @@ mod find_limits;
 #[cfg(test)]
 mod kinds;
 #[cfg(test)]
-mod reports;
+mod files;
 #[cfg(test)]
 mod sheet_limits;

@@ -24,6 +24,8 @@ pub struct Plain;
 impl<C: Cell> Engine<C> for Plain {
     ghost rule = { plain_rule C.Cell.kind };
 
+    // Inlined at each call, as sweep is: else a sheet's tally is written to memory at each look.
+    #[inline(always)]
     fn find<D: Draft<Cell = C>>(
         &self,
         draft: &mut D,
@@ -142,6 +144,7 @@ impl<C: Cell, D: Draft<Cell = C>> Search<'_, C, D> {
     }
 
     /// Tries every alignment, row after row.
+    #[inline(always)]
     fn sweep(&mut self)
         requires { (self.old.found.places ≡ 0) × (self.old.found.looks ≡ 0) }
         ensures { Done C.Cell.kind D.Draft.shows D.Draft.tally (spots (heights (D.Draft.shows self.old.draft.now) (laid (viewed self.old.tile.view))) (widths (D.Draft.shows self.old.draft.now) (laid (viewed self.old.tile.view)))) self.old self.new }
