@@ -93,6 +93,7 @@ impl Book {
     }
 
     // Finds one tile, raises its stop count if it is found, and adds it to the verdict before.
+    // The number is a loop's own, as in raise and get: a type for it would be no plainer.
     fn judge_tile<C: Cell, E: Engine<C>, D: Draft<Cell = C>>(
         &mut self,
         number: usize,

@@ -26,6 +26,8 @@ impl<C: Cell> Engine<C> for Plain {
 
     // Inlined at each call, as sweep is: else a sheet's tally is written to memory at each look.
     #[inline(always)]
+    // Inlined at each call, as sweep and row are: else a sheet's tally is written to memory at each look.
+    #[inline(always)]
     fn find<D: Draft<Cell = C>>(
         &self,
         draft: &mut D,
@@ -75,10 +77,7 @@ fn agree_at<C: Cell, D: Draft<Cell = C>>(draft: &mut D, row: usize, col: usize, 
     ensures same { D.Draft.shows draft.new ≡ D.Draft.shows draft.old }
     ensures counts { D.Draft.tally draft.new ≡ raised (D.Draft.tally draft.old) 1 }
 {
-    match draft.look(row, col) {
-        Some(seen) => seen == cell,
-        None => false,
-    }
+    draft.look(row, col) == Some(cell)
 }
 
 /// A search of a draft for a tile, and what it has found so far.
@@ -133,6 +132,7 @@ impl<C: Cell, D: Draft<Cell = C>> Search<'_, C, D> {
     }
 
     /// Tries the alignments of one row, of which there are `width`.
+    #[inline(always)]
     fn row(&mut self, row: usize, width: usize)
         requires inside { (row + self.old.tile.view.rows ≤ (D.Draft.shows self.old.draft.now).rows) × (width ≡ widths (D.Draft.shows self.old.draft.now) (laid (viewed self.old.tile.view))) }
         requires few { (self.old.found.places < 2 ^ 31) × (self.old.found.looks < 2 ^ 39) }
@@ -144,6 +144,7 @@ impl<C: Cell, D: Draft<Cell = C>> Search<'_, C, D> {
     }
 
     /// Tries every alignment, row after row.
+    #[inline(always)]
     #[inline(always)]
     fn sweep(&mut self)
         requires { (self.old.found.places ≡ 0) × (self.old.found.looks ≡ 0) }
