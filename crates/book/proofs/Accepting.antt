@@ -7,7 +7,7 @@ use Rattle.grids.specs.Refusals.{first_failed, unless}
 use Rattle.grids.proofs.Refusing.{failed_first, failed_then, passed, passed_both, unless_ok, unless_err, unless_none, unless_some}
 use Rattle.engine.specs.Finding.{tile_checks}
 use Rattle.engine.proofs.Accepting.{valid_checked}
-use Rattle.book.specs.Models.{Held, tile_area, cells_held, Stored, hand_out_refusal}
+use Rattle.book.specs.Models.{Held, tile_area, cells_held}
 use Rattle.book.specs.Progress.{store_refusal}
 use Rattle.book.specs.Entering.{times_held, insertion_point, enter_refusal, enter_answer}
 use Rattle.book.specs.Judging.{judge_refusal}
@@ -75,8 +75,3 @@ module _ {C : Type 0} (s : Held C) (m : ℕ) where
 
   pub no_room : length s.store < cells_held s.tiles + m → store_refusal s m ≡ Some 7
   no_room h = rw (lt-leb (cells_held s.tiles + m) (length s.store) h) refl
-
--- whether a tile is handed out
-module _ {C : Type 0} (s : Held C) (n : ℕ) where
-  pub handed_out : n < length s.tiles → Stored s → hand_out_refusal s n ≡ None
-  handed_out h l = rw (lt-ltb n (length s.tiles) h, le-leb (cells_held s.tiles) (length s.store) l) refl

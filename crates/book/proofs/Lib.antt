@@ -5,4 +5,3 @@ pub mod Entered
 pub mod Insertions
 pub mod Accepting
 pub mod Judged
-pub mod Stored

@@ -7,6 +7,7 @@ use Rattle.grids.specs.Places.{has_place}
 use Rattle.grids.specs.Refusals.{first_failed, unless, kept_or}
 use Rattle.drafts.specs.Tallies.{raised}
 use Rattle.engine.specs.Rules.{Rule}
+use Rattle.engine.specs.Finding.{work_checks}
 use Rattle.book.specs.declared.Verdict.{Verdict}
 use Rattle.book.specs.Table.{one_more}
 use Rattle.book.specs.Models.{Held, cells_held}
@@ -14,10 +15,7 @@ use Rattle.book.specs.Models.{Held, cells_held}
 module _ {C : Type 0} where
   -- why judge is refused: a store shorter than the cells held, then a work table of w words that is too short
   abbrev pub judge_refusal : Held C → ℕ → Option ℕ
-  judge_refusal s w = first_failed
-      ((nat_le (cells_held s.tiles) (length s.store), 7)
-      ∷ (nat_le 12288 w, 8)
-      ∷ [])
+  judge_refusal s w = first_failed ((nat_le (cells_held s.tiles) (length s.store), 7) ∷ work_checks w)
 
   -- how many of the tiles have a place in g
   abbrev pub found_in : Kind C → Grid C → List (Tile C) → ℕ

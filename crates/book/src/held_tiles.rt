@@ -13,7 +13,8 @@ use engine::{TileView, ValidTile};
 use grids::Refusal;
 
 // A book, and a store that has the cells of all its tiles. A call that changes the book takes the
-// two apart: a ghost field beside a `&mut` is not covered.
+// two apart: a ghost field beside a `&mut` is not covered. A model of it leaves fourteen facts more to
+// prove than it makes clauses shorter.
 #[derive(Drop)]
 pub(crate) struct HeldTiles<'b, 's, C> {
     pub(crate) book: &'b Book,

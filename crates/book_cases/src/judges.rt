@@ -13,6 +13,7 @@ struct Drawn(usize, usize, &'static [u8]);
 
 /// The tiles of a book in book order, a draft, how many tiles have a place in it, the looks for all of
 /// them, and how often each tile has stopped a draft once this one was judged.
+// Tiles and counts apart: they are entered and compared as lists.
 struct Judged(&'static [Drawn], Drawn, usize, u64, &'static [u16]);
 
 static JUDGED: [Judged; 6] = [

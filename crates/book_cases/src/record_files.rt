@@ -20,7 +20,7 @@ pub(crate) const DR: &[u8] = b"DR";
 pub(crate) const TL: &[u8] = b"TL";
 
 /// A kind with two cells for `.` and `#`; the cell for `.` is before the cell for `#`.
-pub(crate) trait Written: Cell + Clone + Default {
+pub(crate) trait Written: Cell + Default {
     /// The bytes of the cell for `.`.
     const DOT: &'static [u8];
 

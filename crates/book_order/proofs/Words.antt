@@ -37,7 +37,7 @@ module _ {C : Type 0} {k : Kind C} (laws : Lawful k) where
       inr (e, record { number = n; x = u; y = v; agree = t; of_xs = p; of_ys = q; earlier = b })
 
   earlier : (xs ys : List C) → length xs ≡ length ys → Decides (before_lists k xs ys) (EarlierCell k xs ys)
-  earlier [] [] l = (λ h. absurd (both_ways _ refl h), λ e. let p = e.of_xs in let z : ◌≡◌ {A = ℕ} 0 1 = cc in absurd (omega arith))
+  earlier [] [] l = (λ h. absurd (both_ways _ refl h), λ e. let p = e.of_xs in absurd cc)
   earlier [] (y ∷ ys) l = absurd (omega arith)
   earlier (x ∷ xs) [] l = absurd (omega arith)
   earlier (x ∷ xs) (y ∷ ys) l =

@@ -21,7 +21,7 @@ use std::alloc::{AllocError, Global};
 
 /// Enters the tiles of a record file in a book, and looks over its drafts by the tiles then held. Which
 /// engine finds them does not change the lines.
-pub fn book_report<C: Cell + Clone + Default, E: Engine<C>>(
+pub fn book_report<C: Cell + Default, E: Engine<C>>(
     heap: Global,
     engine: &E,
     input: &[u8],
@@ -37,8 +37,9 @@ pub fn book_report<C: Cell + Clone + Default, E: Engine<C>>(
     report_file(heap, &mut report, input)
 }
 
-/// The lines of `book_report` as text.
-pub fn book_text<C: Cell + Clone + Default, E: Engine<C>>(
+/// The text of that report.
+// As find_text: a shared function could not name the report's own definitions.
+pub fn book_text<C: Cell + Default, E: Engine<C>>(
     heap: Global,
     engine: &E,
     input: &[u8],

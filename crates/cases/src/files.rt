@@ -133,7 +133,7 @@ static LONG_FILES: [Long; 11] = [
 ];
 
 /// What is printed of a file that begins with one part and ends with another.
-pub(crate) fn printed<C: Cell + Clone + Default>(
+pub(crate) fn printed<C: Cell + Default>(
     heap: Global,
     front: &[u8],
     rest: &[u8],
@@ -143,7 +143,7 @@ pub(crate) fn printed<C: Cell + Clone + Default>(
     find_text::<C, Plain>(heap, &Plain, file.as_slice())
 }
 
-fn verify_reports<C: Cell + Clone + Default>(
+fn verify_reports<C: Cell + Default>(
     rt: &(impl Abort + AllocGlobal),
     reports: &[Report],
 ) -> Result<(), Fail> {

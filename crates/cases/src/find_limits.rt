@@ -90,7 +90,7 @@ static REFUSED: [Refused; 17] = [
     Refused((1, 33, 1), 12287, Refusal::TileSize),
 ];
 
-fn verify_find<C: Cell + Clone + Default>(
+fn verify_find<C: Cell + Default>(
     rt: &(impl Abort + AllocGlobal),
     at: usize,
     case: &Find,

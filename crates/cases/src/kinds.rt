@@ -10,6 +10,7 @@ use std::test::Fail;
 struct Lifts(Lift, Lift, Ordering);
 
 /// The same of two threads, each a colour and a ply.
+// Tables by kind: a literal of `Thread` in each row would be longer than a second type.
 struct Threads((u16, u8), (u16, u8), Ordering);
 
 /// A byte string, and the lift that it reads as.

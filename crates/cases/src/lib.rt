@@ -5,10 +5,10 @@
 #[cfg(test)]
 mod faults;
 #[cfg(test)]
+mod files;
+#[cfg(test)]
 mod find_limits;
 #[cfg(test)]
 mod kinds;
-#[cfg(test)]
-mod files;
 #[cfg(test)]
 mod sheet_limits;

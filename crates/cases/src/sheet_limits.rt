@@ -75,7 +75,7 @@ static LOOKS: [Look; 12] = [
     Look(0, MOST, None),
 ];
 
-fn verify_sheet<C: Cell + Clone + Default>(
+fn verify_sheet<C: Cell + Default>(
     rt: &(impl Abort + AllocGlobal),
     at: usize,
     sheet: &Sheet,

@@ -1,20 +1,16 @@
 -- Which tiles find takes.
-use Rattle.std.proofs.Common.{◌≡◌, ℕ, ◌*◌, ◌≤◌, ◌&&◌, eqb, leb, [], ◌∷◌, length, IfOk, Some, None, Ok, Err, Option, Result, sym, refl, ap, ◌∙◌, arith}
-use Rattle.std.proofs.lemmas.Bool.{and_parts, and_from, leb-true, le-leb, eqb-true, eq-eqb}
+use Rattle.std.proofs.Common.{◌≡◌, ℕ, ◌*◌, ◌&&◌, eqb, leb, [], ◌∷◌, length, IfOk, Some, None, Ok, Err, Option, Result, refl}
+use Rattle.std.proofs.lemmas.Bool.{and_parts, leb-true, eqb-true}
 use Rattle.grids.specs.declared.Refusal.{Refusal}
 use Rattle.grids.specs.Grids.{Tile, Valid}
-use Rattle.grids.specs.Refusals.{first_failed, between, unless, numbered, numbers}
+use Rattle.grids.specs.Refusals.{first_failed, between, unless, numbered}
 use Rattle.grids.proofs.Refusing.{passed, passed_both}
 use Rattle.engine.specs.Finding.{tile_checks, find_refusal}
-
--- where the code finds no refusal, there is none
-pub none_when : (r : Option Refusal) (o : Option ℕ) → numbers r ≡ o → r ≡ None → o ≡ None
-none_when r o e f = sym e ∙ ap numbers f
 
 -- what holds where there is no refusal holds of an answer
 pub made_when : {X : Type 0} (P : Type 0) (r : Result X Refusal) (o : Option ℕ) (x : X) → numbered r ≡ unless o x → (o ≡ None → P) → IfOk r (λ _. P)
 made_when P (Ok y) None x e f = f refl
-made_when P (Ok y) (Some n) x e f = let z : ◌≡◌ {A = ℕ} 0 1 = cc in absurd (omega arith)
+made_when P (Ok y) (Some n) x e f = absurd cc
 made_when P (Err y) o x e f = tt
 
 -- a tile that passes its checks is valid
@@ -37,10 +33,3 @@ module _ {C : Type 0} (t : Tile C) (w : ℕ) where
   -- a tile that find does not refuse is valid
   pub valid_when : find_refusal t w ≡ None → Valid t
   valid_when e = valid_checked t (passed_both (tile_checks t) ((leb 12288 w, 8) ∷ []) e).0
-
-  -- find takes a valid tile, with a work table that is long enough
-  pub accepts : Valid t → 12288 ≤ w → find_refusal t w ≡ None
-  accepts v l =
-      let rows = and_from (leb 1 t.rows) (leb t.rows 32) (le-leb 1 t.rows v.some_rows) (le-leb t.rows 32 v.few_rows) in
-      let cols = and_from (leb 1 t.cols) (leb t.cols 32) (le-leb 1 t.cols v.some_cols) (le-leb t.cols 32 v.few_cols) in
-      rw (and_from (between 1 32 t.rows) (between 1 32 t.cols) rows cols, eq-eqb _ _ v.whole, le-leb 12288 w l) refl

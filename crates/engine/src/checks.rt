@@ -40,6 +40,7 @@ pub fn check_work(words: usize) -> Result<(), Refusal>
 }
 
 /// Refuses what find refuses: the tile, and then a work table of so many words.
+// For callers who would know it beforehand.
 pub fn check_find<C: Copy>(tile: &TileView<'_, C>, words: usize) -> Result<(), Refusal>
     ensures { numbered result ≡ unless (find_refusal (viewed tile.now) words) tt }
 {

@@ -16,7 +16,7 @@ use std::alloc::{AllocError, Global};
 
 /// Looks through each draft of a record file for each tile that stands before it in the file. What is
 /// reported of a tile are exactly its places, each once, in reading order.
-pub fn find_report<C: Cell + Clone + Default, E: Engine<C>>(
+pub fn find_report<C: Cell + Default, E: Engine<C>>(
     heap: Global,
     engine: &E,
     input: &[u8],
@@ -33,7 +33,8 @@ pub fn find_report<C: Cell + Clone + Default, E: Engine<C>>(
 }
 
 /// The text of that report.
-pub fn find_text<C: Cell + Clone + Default, E: Engine<C>>(
+// As book_text: a shared function could not name the report's own definitions.
+pub fn find_text<C: Cell + Default, E: Engine<C>>(
     heap: Global,
     engine: &E,
     input: &[u8],

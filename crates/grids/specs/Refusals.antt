@@ -1,6 +1,5 @@
 -- Which refusal a call answers, by an ordered list of its checks. Assumes nothing.
 use Rattle.std.specs.Prelude.{ℕ, Bool, cond, ◌&&◌, List, [], ◌∷◌, Some, None, Ok, Err, Option, Result, nat_le}
-use Rattle.std.specs.Option.{option_map}
 use Rattle.grids.specs.declared.Refusal.{Refusal}
 use Rattle.grids.specs.Numbers.{number}
 
@@ -31,7 +30,3 @@ numbered_by f (Err e) = Err (number e)
 -- an answer with its refusal as a number
 abbrev pub numbered : {X : Type 0} → Result X Refusal → Result X ℕ
 numbered r = numbered_by (λ x. x) r
-
--- a refusal that may be there, as a number
-abbrev pub numbers : Option Refusal → Option ℕ
-numbers o = option_map number o

@@ -81,6 +81,7 @@ impl Refusal {
 }
 
 /// Whether a size has 1 to `most` rows, and 1 to `most` columns.
+// Rows and columns stay two numbers: a type of them would be taken apart at each use.
 pub fn sized(rows: usize, cols: usize, most: usize) -> bool
     ensures { result ≡ (between 1 most rows && between 1 most cols) }
 {

@@ -5,8 +5,8 @@ use cells::Lift;
 use std::alloc::Global;
 use std::fmt;
 
-// Not a type for each question: all are asked of the same book, and differ in one line of each match.
 /// What is asked of the tile with a number in a book of 32.
+// Not a type for each question: all are asked of the same book, and differ in one line of each match.
 enum Ask {
     Size(usize),
     Stops(usize),

@@ -36,7 +36,7 @@ pub enum Line {
     },
     /// The number of the refusal of a tile that was not entered.
     Refused {
-        // Users know refusals by number, and four refusals share one.
+        // A number: promises tell refusals by number, which four of them share.
         number: u8,
     },
     /// The size of a draft in which no tile of the book was found.

@@ -4,6 +4,7 @@
 use cells::{Lift, Thread};
 use find_report::find_text;
 use plain::Plain;
+use reports::LONGEST;
 use std::alloc::{AllocError, Global};
 use std::env;
 use std::io::Read;
@@ -13,9 +14,10 @@ const USAGE: &str =
     "usage: lookfor ENGINE KIND, where ENGINE is plain and KIND is lifts or threads";
 
 // One byte more than an input may have, so that a longer one is seen to be too long.
-const MOST: u64 = 65536;
+const MOST: u64 = LONGEST as u64 + 1;
 
 /// A kind of cells.
+// A value and a match: the arguments are looked at before the input, and two closures would be no plainer.
 #[derive(Clone, Copy)]
 enum Kind {
     Lifts,

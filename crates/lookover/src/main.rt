@@ -4,10 +4,11 @@
 use book_report::book_text;
 use cells::Lift;
 use plain::Plain;
+use reports::LONGEST;
 use std::io::Read;
 
 // One byte more than an input may have, so that a longer one is seen to be too long.
-const MOST: u64 = 65536;
+const MOST: u64 = LONGEST as u64 + 1;
 
 // Reading and printing stand in each program: a shared function for them could promise nothing.
 fn main(rt: HostRuntime) -> anyhow::Result<()> {

@@ -24,8 +24,6 @@ pub struct Plain;
 impl<C: Cell> Engine<C> for Plain {
     ghost rule = { plain_rule C.Cell.kind };
 
-    // Inlined at each call, as sweep is: else a sheet's tally is written to memory at each look.
-    #[inline(always)]
     // Inlined at each call, as sweep and row are: else a sheet's tally is written to memory at each look.
     #[inline(always)]
     fn find<D: Draft<Cell = C>>(
@@ -99,7 +97,7 @@ impl<C: Cell, D: Draft<Cell = C>> Search<'_, C, D> {
         ensures looked { Looked D.Draft.shows D.Draft.tally (compared C.Cell.kind (D.Draft.shows self.old.draft.now) (laid (viewed self.old.tile.view)) corner) self.old self.new }
         ensures few { self.new.found.looks ≤ self.old.found.looks + 1024 }
     {
-        // By index: with `chunks_exact` a tile of one column took a seventh longer to compare.
+        // The cells by index: with `chunks_exact` the loops took up to a sixth longer.
         let TileView { rows, cols, cells } = self.tile.view;
         // Lent once: with `self.draft` lent for each cell, a comparison took half as long again.
         let draft = &mut *self.draft;
@@ -144,7 +142,6 @@ impl<C: Cell, D: Draft<Cell = C>> Search<'_, C, D> {
     }
 
     /// Tries every alignment, row after row.
-    #[inline(always)]
     #[inline(always)]
     fn sweep(&mut self)
         requires { (self.old.found.places ≡ 0) × (self.old.found.looks ≡ 0) }

@@ -16,6 +16,7 @@ pub fn all_read<C: Cell>(count: usize, bytes: &[u8]) -> bool
     if bytes.len() / C::BYTES < count {
         return false;
     }
+    // A loop: `all` was tried, and no lemma of the library says which list the chunks yield.
     for cell in bytes.chunks_exact(C::BYTES).take(count) {
         if C::read(cell).is_none() {
             return false;
@@ -45,6 +46,7 @@ fn copy_cells<C: Cell>(count: usize, bytes: &[u8], cells: &mut [C])
     requires read { is_some (cells_read C.Cell.reading count bytes.now) ≡ true }
     ensures { cells.new ≡ listed (cells_of C.Cell.reading count bytes.now) cells.old }
 {
+    // By index: after a loop over `iter_mut` nothing is known of the cells.
     for (i, cell) in bytes.chunks_exact(C::BYTES).take(count).enumerate() {
         if let Some(x) = C::read(cell) {
             cells[i] = x;

@@ -102,7 +102,7 @@ pub record Took {C : Type 0} (k : Reading C) (bs : List ℕ) (e : Entry) (m : �
   pub within : m ≤ length bs
 
 took_or : {C : Type 0} (k : Reading C) (bs : List ℕ) (o : Option ℕ) (e : Entry) (m : ℕ) → record_fault k bs ≡ o → faulty_or o (entry_in k (mark_in bs) (after_mark bs)) (2 + (4 + body_size k (after_mark bs))) ≡ whole e m → Took k bs e m
-took_or k bs (Some n) e m h f = let z : ◌≡◌ {A = ℕ} 0 1 = cc in absurd (omega arith)
+took_or k bs (Some n) e m h f = absurd cc
 took_or k bs None e m h f =
     let s = sound k bs h in
     let x : entry_in k (mark_in bs) (after_mark bs) ≡ e = cc in
@@ -110,5 +110,5 @@ took_or k bs None e m h f =
     record { sound = subst (λ i. Sound k (limit i.mark) i) x s.0; some = omega (arith, y); within = omega (arith, y, s.1) }
 
 pub took : {C : Type 0} (k : Reading C) (bs : List ℕ) (e : Entry) (m : ℕ) → front k bs ≡ whole e m → Took k bs e m
-took k [] e m h = let z : ◌≡◌ {A = ℕ} 0 1 = cc in absurd (omega arith)
+took k [] e m h = absurd cc
 took k (b ∷ bs) e m h = took_or k (b ∷ bs) (record_fault k (b ∷ bs)) e m refl h

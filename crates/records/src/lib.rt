@@ -14,7 +14,8 @@ use readings::all_read;
 use std::marker::Model;
 
 /// The size of a draft or tile, and its cells as they stand in the file.
-// Not a view of a tile: these are bytes, as many for a cell as the kind says.
+// Not a view of a tile: these are bytes, as many for a cell as the kind says. That it is sound is no
+// ghost field: an enum that holds such a struct and a reference is not covered.
 #[derive(Clone, Copy)]
 pub struct Body<'a> {
     pub rows: usize,

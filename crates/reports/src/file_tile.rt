@@ -36,7 +36,7 @@ impl<C: Copy> FileTile<C> {
     }
 }
 
-impl<C: Cell + Clone + Default> FileTile<C> {
+impl<C: Cell + Default> FileTile<C> {
     // Reads the cells of a tile record.
     pub(crate) fn read(heap: Global, body: &Body<'_>) -> Result<FileTile<C>, AllocError>
         requires { Sound C.Cell.reading 32 (entry_of tile_mark body.now) }

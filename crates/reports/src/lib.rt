@@ -19,6 +19,9 @@ use records::{Reader, Record};
 use sheets::ByteSheet;
 use std::alloc::{AllocError, Global};
 
+/// How many bytes an input may have.
+pub const LONGEST: usize = 65535;
+
 /// A work table, as long as every engine needs it.
 pub type WorkTable = [u32; 12288];
 
@@ -49,7 +52,7 @@ pub trait Report<C: Cell> {
 }
 
 /// The lines of a record file.
-pub fn report_file<C: Cell + Clone + Default, R: Report<C>>(
+pub fn report_file<C: Cell + Default, R: Report<C>>(
     heap: Global,
     reporter: &mut R,
     input: &[u8],
@@ -57,7 +60,7 @@ pub fn report_file<C: Cell + Clone + Default, R: Report<C>>(
     ensures { IfOk result (λ v. v.items ≡ report (says R.Report.telling C.Cell.reading) (next R.Report.telling C.Cell.reading) C.Cell.reading (R.Report.state reporter.old) input.now) }
 {
     let mut lines = Vec::new(heap);
-    if input.len() > 65535 {
+    if input.len() > LONGEST {
         lines.push(Line::TooLong)?;
         return Ok(lines);
     }
@@ -67,6 +70,7 @@ pub fn report_file<C: Cell + Clone + Default, R: Report<C>>(
             Ok(Some(record)) => report_record(heap, reporter, record, &mut lines)?,
             Ok(None) => return Ok(lines),
             Err(fault) => {
+                // By hand: lines knows no records, and records no lines.
                 lines.push(Line::Fault {
                     number: fault.refusal.number(),
                     at: fault.at,
@@ -78,7 +82,7 @@ pub fn report_file<C: Cell + Clone + Default, R: Report<C>>(
 }
 
 // Hands a record of the file to the report.
-fn report_record<C: Cell + Clone + Default, R: Report<C>>(
+fn report_record<C: Cell + Default, R: Report<C>>(
     heap: Global,
     reporter: &mut R,
     record: Record<'_>,

@@ -1,7 +1,7 @@
 //! Bottom drafts: sheets over lent cells, and over lent file bytes.
 #![tactic(auto)]
 
-// Two types: they share a size and a count, and a trait for where the cells are would be longer than both.
+// Two types: what they share, a size and a count, is shorter than a trait for where the cells are.
 mod byte_sheet;
 mod cell_sheet;
 
