@@ -1,4 +1,4 @@
-use Rattle.std.proofs.Common.{arith, rules}
+use Rattle.std.proofs.Common.{rules}
 use Rattle.plain.proofs.Compared.{agreed_more, over_all, over_here}
 use Rattle.plain.proofs.Search.agrees.Goals.{else-tile-test, then-tile-test+then-loop-j-test+then-not-agree_at}
 use Rattle.plain.proofs.Search.agrees.Goals as goal
