@@ -67,7 +67,7 @@ pub record Upto {C : Type 0} (k : Kind C) (rule : Rule C) (g : Grid C) (ts : Lis
   pub few_looks : v.looks ≤ n * 2 ^ 33
 
 -- the tile with number n is looked for after the first n, in a draft that still shows g
-module _ {C : Type 0} (k : Kind C) (rule : Rule C) (g h : Grid C) (b d : Book) (cs : List C) (n : ℕ) (v : Verdict) (f : Found) (x y z : ℕ) (l : n < b.count) (same : h ≡ g) (u : Upto k rule g (held b cs).tiles n b d v x y) (answer : f ≡ finding k rule h (laid (get_or (held d cs).tiles n no_tile))) (few : f.looks ≤ 2 ^ 33) (counts : z ≡ raised y f.looks) where
+module _ {C : Type 0} {k : Kind C} {rule : Rule C} {g h : Grid C} {b d : Book} {n : ℕ} {v : Verdict} {f : Found} {x y z : ℕ} (cs : List C) (l : n < b.count) (same : h ≡ g) (u : Upto k rule g (held b cs).tiles n b d v x y) (answer : f ≡ finding k rule h (laid (get_or (held d cs).tiles n no_tile))) (few : f.looks ≤ 2 ^ 33) (counts : z ≡ raised y f.looks) where
   abbrev ts : List (Tile C)
   ts = (held b cs).tiles
 

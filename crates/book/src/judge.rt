@@ -8,7 +8,7 @@ ghost use Rattle.drafts.specs.Tallies.{raised};
 ghost use Rattle.engine.specs.Views.{viewed};
 ghost use Rattle.engine.specs.Finding.{finding};
 ghost use Rattle.book.specs.Table.{no_entry, stopped};
-ghost use Rattle.book.specs.Models.{held, no_tile};
+ghost use Rattle.book.specs.Models.{held};
 ghost use Rattle.book.specs.Judging.{judge_refusal, verdict, judged, Judges, judge_tally};
 
 use crate::held_tiles::HeldTiles;
