@@ -1,5 +1,5 @@
 -- A draft judged tile by tile.
-use Rattle.std.proofs.Common.{◌≡◌, ℕ, zero, suc, ◌+◌, ◌*◌, ◌^◌, ◌<◌, ◌≤◌, true, cond, List, [], ◌∷◌, ◌++◌, map, length, get_or, take, drop, set, sum_by, count_by, sym, refl, ap, ◌∙◌, subst, ap₂, arith}
+use Rattle.std.proofs.Common.{◌≡◌, ℕ, zero, suc, ◌+◌, ◌*◌, ◌^◌, ◌<◌, ◌≤◌, Bool, true, false, nat_lt, cond, List, [], ◌∷◌, ◌++◌, map, length, get_or, take, drop, set, sum_by, count_by, sym, refl, ap, ◌∙◌, subst, ap₂, arith}
 use lib.Lanes.{zip2}
 use Rattle.std.specs.List.{AllByRecursion}
 use Rattle.std.proofs.Math.Seq.{take-set-lt}
@@ -7,7 +7,7 @@ use Rattle.std.proofs.lemmas.Nat.{mul-le}
 use Rattle.std.proofs.ByRecursion.{All-from_get_or}
 use Rattle.std.proofs.lemmas.List.{take_all, drop_all, append-nil, map-set, set-get_or}
 use Rattle.std.proofs.lemmas.List.Sums.{sum_by_more}
-use Rattle.std.proofs.lemmas.Bool.{cond-true, cond_both, lt-ltb}
+use Rattle.std.proofs.lemmas.Bool.{cond-true, cond-false, cond_both, lt-ltb}
 use Rattle.grids.specs.declared.Found.{Found}
 use Rattle.grids.specs.Kinds.{Kind, Lawful}
 use Rattle.grids.specs.Grids.{Grid, Tile, Drawn, Valid, laid}
@@ -22,7 +22,6 @@ use Rattle.book.specs.declared.Verdict.{Verdict}
 use Rattle.book.specs.Table.{stopped, size_of, one_more}
 use Rattle.book.specs.Models.{sizes, stop_counts, entries_held, no_tile, cut, held, Stored, is_trimmed}
 use Rattle.book.specs.Judging.{verdict, stops_after, judged}
-use Rattle.book.specs.Progress.{Tried}
 use Rattle.book.proofs.Tables.{entry_at, told_at, length_told, tiles_counted, part_tile, part_valid}
 
 -- what a looking rule's bound comes to
@@ -46,24 +45,6 @@ module _ (b d : Book) (n : ℕ) (h : n < b.count) (is : d.entries ≡ set b.entr
   pub stops_raised : stop_counts d ≡ set (stop_counts b) n (one_more (get_or (stop_counts b) n 0))
   stops_raised = told_raised (λ e. e.stops) ∙ ap (λ m. set (stop_counts b) n (one_more m)) (sym (told_at b (λ e. e.stops) n 0 h))
 
-module _ {C : Type 0} (k : Kind C) (rule : Rule C) (g : Grid C) (n : ℕ) (t : Tile C) (b : Book) (v : Verdict) (f : Found) (x y : ℕ) (answer : f ≡ finding k rule g (laid t)) (few : f.looks ≤ 2 ^ 33) (counts : y ≡ raised x f.looks) where
-  looks_is : f.looks ≡ rule.looks g (laid t)
-  looks_is = ap (λ h. h.looks) answer
-
-  -- the tile was found, and its stop count raised
-  pub tried_found : (d : Book) → n < b.count → 0 < f.places → d.entries ≡ set b.entries n (stopped (entry_at b n)) → d.count ≡ b.count → d.trimmed ≡ b.trimmed → Tried k rule g n t b d v (record { found = v.found + 1; looks = v.looks + f.looks }) x y
-  tried_found d h p is same state =
-      let has : has_place k g (laid t) ≡ true = lt-ltb 0 _ (omega (arith, p, ap (λ q. q.places) answer)) in
-      record {
-        same_sizes = sizes_raised b d n h is same;
-        same_state = state;
-        stops = stops_raised b d n h is same ∙ ap (set (stop_counts b) n) (sym (cond-true (has_place k g (laid t)) (one_more (get_or (stop_counts b) n 0)) (get_or (stop_counts b) n 0) has));
-        found = ap (λ m. v.found + m) (sym (cond-true {A = ℕ} (has_place k g (laid t)) 1 0 has));
-        looks = ap (λ m. v.looks + m) looks_is;
-        few = omega (arith, few);
-        counts = counts ∙ ap (raised x) looks_is;
-      }
-
 -- the first n stop counts changed by f
 abbrev changed : {X : Type 0} → (X → ℕ → ℕ) → List X → List ℕ → ℕ → List ℕ
 changed f ts ms n = zip2 f (take n ts) (take n ms) ++ drop n ms
@@ -73,13 +54,6 @@ changed_more f [] ms n d h l = absurd (omega arith)
 changed_more f (t ∷ ts) [] n d h l = absurd (omega arith)
 changed_more f (t ∷ ts) (m ∷ ms) zero d h l = refl
 changed_more f (t ∷ ts) (m ∷ ms) (suc n) d h l = ap (λ xs. f t m ∷ xs) (changed_more f ts ms n d (omega arith) (omega arith))
-
--- a step on a draft and a book that show the same as at the start
-pub tried_same : {C : Type 0} (k : Kind C) (rule : Rule C) (g h : Grid C) (n : ℕ) (cs : List C) (b d e : Book) (v w : Verdict) (x y : ℕ) → h ≡ g → sizes d ≡ sizes b → Tried k rule h n (get_or (held d cs).tiles n no_tile) d e v w x y → Tried k rule g n (get_or (held b cs).tiles n no_tile) d e v w x y
-tried_same {C} k rule g h n cs b d e v w x y p q t =
-    let P : Grid C → Type 0 = λ o. Tried k rule o n (get_or (held b cs).tiles n no_tile) d e v w x y in
-    let Q : List (ℕ × ℕ) → Type 0 = λ ss. Tried k rule h n (get_or (cut ss cs) n no_tile) d e v w x y in
-    subst P p (subst Q q t)
 
 -- the first n of the tiles ts were tried
 pub record Upto {C : Type 0} (k : Kind C) (rule : Rule C) (g : Grid C) (ts : List (Tile C)) (n : ℕ) (b d : Book) (v : Verdict) (x y : ℕ) : Type 0 where
@@ -92,27 +66,68 @@ pub record Upto {C : Type 0} (k : Kind C) (rule : Rule C) (g : Grid C) (ts : Lis
   pub few_found : v.found ≤ n
   pub few_looks : v.looks ≤ n * 2 ^ 33
 
-module _ {C : Type 0} (k : Kind C) (rule : Rule C) (g : Grid C) (b : Book) (cs : List C) (x : ℕ) where
-  pub upto_more : (n : ℕ) (d e : Book) (v w : Verdict) (y z : ℕ) (h : Grid C) → h ≡ g → n < b.count → Upto k rule g (held b cs).tiles n b d v x y → Tried k rule h n (get_or (held d cs).tiles n no_tile) d e v w y z → Upto k rule g (held b cs).tiles (n + 1) b e w x z
-  upto_more n d e v w y z h same l u tried =
-      let ts = (held b cs).tiles in
-      let t = tried_same k rule g h n cs b d e v w y z same u.same_sizes tried in
-      let next = get_or ts n no_tile in
+-- the tile with number n is looked for after the first n, in a draft that still shows g
+module _ {C : Type 0} {k : Kind C} {rule : Rule C} {g h : Grid C} {b d : Book} {n : ℕ} {v : Verdict} {f : Found} {x y z : ℕ} (cs : List C) (l : n < b.count) (same : h ≡ g) (u : Upto k rule g (held b cs).tiles n b d v x y) (answer : f ≡ finding k rule h (laid (get_or (held d cs).tiles n no_tile))) (few : f.looks ≤ 2 ^ 33) (counts : z ≡ raised y f.looks) where
+  abbrev ts : List (Tile C)
+  ts = (held b cs).tiles
+
+  abbrev next : Tile C
+  next = get_or ts n no_tile
+
+  abbrev has : Bool
+  has = has_place k g (laid next)
+
+  found_is : f ≡ finding k rule g (laid next)
+  found_is = answer ∙ ap₂ (λ o ss. finding k rule o (laid (get_or (cut ss cs) n no_tile))) same u.same_sizes
+
+  held_in : n < d.count
+  held_in = omega (arith, l, length_told b size_of, length_told d size_of, ap length u.same_sizes)
+
+  upto_more : (e : Book) (w : Verdict) → sizes e ≡ sizes d → is_trimmed e ≡ is_trimmed d → stop_counts e ≡ set (stop_counts d) n (stops_after k g next (get_or (stop_counts d) n 0)) → w.found ≡ v.found + cond has 1 0 → w.looks ≡ v.looks + f.looks → Upto k rule g ts (n + 1) b e w x z
+  upto_more e w same_sizes same_state stops found looks =
       let long : n < length ts = omega (arith, l, tiles_counted b cs n) in
       let more = changed_more (stops_after k g) ts (stop_counts b) n no_tile long (omega (arith, l, length_told b (λ i. i.stops))) in
-      let one : cond (has_place k g (laid next)) 1 0 ≤ 1 = cond_both (has_place k g (laid next)) 1 0 (λ i. i ≤ 1) (λ _. omega arith) (λ _. omega arith) in
+      let one : cond has 1 0 ≤ 1 = cond_both has 1 0 (λ i. i ≤ 1) (λ _. omega arith) (λ _. omega arith) in
       let i : suc n ≡ n + 1 = omega arith in
+      let looked = ap (λ q. q.looks) found_is in
       record {
-        same_sizes = t.same_sizes ∙ u.same_sizes;
-        same_state = t.same_state ∙ u.same_state;
-        stops = t.stops ∙ (ap (λ ms. set ms n (stops_after k g next (get_or ms n 0))) u.stops ∙ (more ∙ ap (changed (stops_after k g) ts (stop_counts b)) i));
-        found = t.found ∙ (ap (λ m. m + cond (has_place k g (laid next)) 1 0) u.found ∙ sym (sum_by_more (λ s. cond (has_place k g (laid s)) 1 0) ts n no_tile long));
-        looks = t.looks ∙ (ap (λ m. m + rule.looks g (laid next)) u.looks ∙ sym (sum_by_more (λ s. rule.looks g (laid s)) ts n no_tile long));
-        counts = omega (arith, t.counts, u.counts, t.looks);
-        few_found = omega (arith, t.found, one, u.few_found);
-        few_looks = omega (arith, t.few, u.few_looks);
+        same_sizes = same_sizes ∙ u.same_sizes;
+        same_state = same_state ∙ u.same_state;
+        stops = stops ∙ (ap (λ ms. set ms n (stops_after k g next (get_or ms n 0))) u.stops ∙ (more ∙ ap (changed (stops_after k g) ts (stop_counts b)) i));
+        found = found ∙ (ap (λ m. m + cond has 1 0) u.found ∙ sym (sum_by_more (λ s. cond (has_place k g (laid s)) 1 0) ts n no_tile long));
+        looks = looks ∙ (ap₂ (λ m o. m + o) u.looks looked ∙ sym (sum_by_more (λ s. rule.looks g (laid s)) ts n no_tile long));
+        counts = omega (arith, counts, u.counts, looks);
+        few_found = omega (arith, found, one, u.few_found);
+        few_looks = omega (arith, few, looks, u.few_looks);
       }
 
+  -- it is found, and its stop count raised
+  pub upto_found : (e : Book) (w : Verdict) → 0 < f.places → e.entries ≡ set d.entries n (stopped (entry_at d n)) → e.count ≡ d.count → e.trimmed ≡ d.trimmed → w ≡ record { found = v.found + 1; looks = v.looks + f.looks } → Upto k rule g ts (n + 1) b e w x z
+  upto_found e w p is count state sum =
+      let yes : has ≡ true = lt-ltb 0 _ (omega (arith, p, ap (λ q. q.places) found_is)) in
+      let m = get_or (stop_counts d) n 0 in
+      upto_more e w
+      (sizes_raised d e n held_in is count)
+      state
+      (stops_raised d e n held_in is count ∙ ap (set (stop_counts d) n) (sym (cond-true has (one_more m) m yes)))
+      (ap (λ q. q.found) sum ∙ ap (λ i. v.found + i) (sym (cond-true {A = ℕ} has 1 0 yes)))
+      (ap (λ q. q.looks) sum)
+
+  -- it isn't, and the book stays
+  pub upto_missed : (e : Book) (w : Verdict) → f.places ≤ 0 → e ≡ d → w ≡ record { found = v.found; looks = v.looks + f.looks } → Upto k rule g ts (n + 1) b e w x z
+  upto_missed e w p is sum =
+      let none : f.places ≡ 0 = omega (arith, p) in
+      let no : has ≡ false = ap (nat_lt 0) (sym (ap (λ q. q.places) found_is) ∙ none) in
+      let m = get_or (stop_counts d) n 0 in
+      let more : v.found ≡ v.found + 0 = omega arith in
+      upto_more e w
+      (ap sizes is)
+      (ap is_trimmed is)
+      (ap stop_counts is ∙ (sym (set-get_or (stop_counts d) n 0) ∙ ap (set (stop_counts d) n) (sym (cond-false has (one_more m) m no))))
+      (ap (λ q. q.found) sum ∙ (more ∙ ap (λ i. v.found + i) (sym (cond-false {A = ℕ} has 1 0 no))))
+      (ap (λ q. q.looks) sum)
+
+module _ {C : Type 0} (k : Kind C) (rule : Rule C) (g : Grid C) (b : Book) (cs : List C) (x : ℕ) where
   -- once all are tried
   pub upto_all : (n : ℕ) (d : Book) (v : Verdict) (y : ℕ) → b.count ≤ n → Upto k rule g (held b cs).tiles n b d v x y → (v ≡ verdict k rule g (held b cs).tiles) × (held d cs ≡ judged k g (held b cs))
   upto_all n d v y h u =

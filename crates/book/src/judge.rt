@@ -8,9 +8,8 @@ ghost use Rattle.drafts.specs.Tallies.{raised};
 ghost use Rattle.engine.specs.Views.{viewed};
 ghost use Rattle.engine.specs.Finding.{finding};
 ghost use Rattle.book.specs.Table.{no_entry, stopped};
-ghost use Rattle.book.specs.Models.{held, no_tile};
+ghost use Rattle.book.specs.Models.{held};
 ghost use Rattle.book.specs.Judging.{judge_refusal, verdict, judged, Judges, judge_tally};
-ghost use Rattle.book.specs.Progress.{Tried};
 
 use crate::held_tiles::HeldTiles;
 use crate::{Book, TableEntry, Verdict};
@@ -71,7 +70,7 @@ impl Book {
         check_work(words)
     }
 
-    // Finds every tile, in book order.
+    // Finds every tile, in book order, and raises the stop count of each tile found.
     fn judge_all<C: Cell, E: Engine<C>, D: Draft<Cell = C>>(
         &mut self,
         store: &[C],
@@ -87,40 +86,19 @@ impl Book {
     {
         let mut sum = Verdict { found: 0, looks: 0 };
         for n in 0..self.count {
-            sum = self.judge_tile(n, store, engine, draft, work, sum);
+            let tile = HeldTiles { book: self, store }.get(n);
+            let Found { places, looks } = find_tile(engine, draft, &tile, work);
+            sum.looks += looks;
+            if places > 0 {
+                self.raise(n);
+                sum.found += 1;
+            }
         }
         sum
     }
 
-    // Finds one tile, raises its stop count if it is found, and adds it to the verdict before.
-    // The number is a loop's own, as in raise and get: a type for it would be no plainer.
-    fn judge_tile<C: Cell, E: Engine<C>, D: Draft<Cell = C>>(
-        &mut self,
-        number: usize,
-        store: &[C],
-        engine: &E,
-        draft: &mut D,
-        work: &mut [u32],
-        before: Verdict,
-    ) -> Verdict
-        requires within { number < self.old.count }
-        requires accepted { judge_refusal (held self.old store.now) (length work.old) ≡ None }
-        requires few { (before.found < 2 ^ 32) × (before.looks < 2 ^ 48) }
-        ensures tried { Tried C.Cell.kind E.Engine.rule (D.Draft.shows draft.old) number (slice_index_or (held self.old store.now).tiles number no_tile) self.old self.new before result (D.Draft.tally draft.old) (D.Draft.tally draft.new) }
-        ensures same { D.Draft.shows draft.new ≡ D.Draft.shows draft.old }
-    {
-        let tile = HeldTiles { book: self, store }.get(number);
-        let Found { places, looks } = find_tile(engine, draft, &tile, work);
-        let mut verdict = before;
-        verdict.looks += looks;
-        if places > 0 {
-            self.raise(number);
-            verdict.found += 1;
-        }
-        verdict
-    }
-
-    // Raises the stop count of a tile in the table.
+    // Raises the stop count of a tile in the table. The number is a loop's own, as in get: a type for
+    // it would be no plainer.
     fn raise(&mut self, number: usize)
         requires { number < self.old.count }
         ensures entries { self.new.entries ≡ slice_set self.old.entries number (stopped (slice_index_or self.old.entries number no_entry)) }
