@@ -20,6 +20,7 @@ pub trait Cell: Copy + Ord {
     ghost BYTES: { ℕ };
 
     /// The code of the cell.
+    // Not From: unequal cells may share a code, so it stands for no cell.
     fn code_of(self) -> u8
         ensures { result ≡ code self };
 
