@@ -2,7 +2,7 @@
 //! every engine.
 #![tactic(auto)]
 
-ghost use Rattle.std.specs.Prelude.{◌≡◌, [], ◌∷◌, ◌++◌, IfOk, OnOk, string_bytes};
+ghost use Rattle.std.specs.Prelude.{◌≡◌, ◌≤◌, [], ◌∷◌, ◌++◌, length, IfOk, OnOk, string_bytes};
 ghost use Rattle.grids.specs.Refusals.{numbered};
 ghost use Rattle.book.specs.Models.{Held, held, Stored};
 ghost use Rattle.book.specs.Entering.{enter_answer, enter_state};
@@ -16,7 +16,7 @@ use drafts::Draft;
 use engine::Engine;
 use grids::{Position, Refusal};
 use lines::{Line, render};
-use reports::{FileTile, Report, WorkTable, push_places, report_file};
+use reports::{FileTile, LONGEST, Report, push_places, report_file, too_long};
 use std::alloc::{AllocError, Global};
 
 /// Enters the tiles of a record file in a book, and looks over its drafts by the tiles then held. Which
@@ -28,9 +28,14 @@ pub fn book_report<C: Cell + Default, E: Engine<C>>(
 ) -> Result<Vec<Line>, AllocError>
     ensures { IfOk result (λ v. Answers C.Cell.kind C.Cell.reading input.now v.items) }
 {
+    // Before memory is asked for; report_file would only see it after that.
+    if input.len() > LONGEST {
+        return too_long(heap);
+    }
     let mut report = BookReport {
         engine,
-        work: [0; 12288],
+        work: vec![in heap; 0; 12288]?,
+        cells: Vec::new(heap),
         book: Book::new(),
         store: vec![in heap; C::default(); 4096]?,
     };
@@ -43,20 +48,24 @@ pub fn book_text<C: Cell + Default, E: Engine<C>>(
     heap: Global,
     engine: &E,
     input: &[u8],
-) -> Result<String, AllocError>
+) -> anyhow::Result<String>
     ensures { IfOk result (λ s. Prints C.Cell.kind C.Cell.reading input.now (string_bytes s)) }
 {
     let lines = book_report(heap, engine, input)?;
-    render(heap, lines.as_slice())
+    let text = render(heap, lines.as_slice())?;
+    Ok(text)
 }
 
-// A book with its store, and the engine with its work table that looks over drafts by it.
+// A book with its store, and the engine with its work table that looks over drafts by it. Each tile of the
+// file is read into the same memory.
 #[derive(Drop)]
 struct BookReport<'e, C, E> {
     engine: &'e E,
-    work: WorkTable,
+    work: Vec<u32>,
+    cells: Vec<C>,
     book: Book,
     store: Vec<C>,
+    ghost room: { 12288 ≤ length work.items },
     ghost stored: { Stored (held book store.items) },
 }
 
@@ -68,11 +77,13 @@ impl<C: Cell, E: Engine<C>> Report<C> for BookReport<'_, C, E> {
     ghost telling = { telling C.Cell.kind };
 
     // Enters a tile, and says what came of it.
-    fn tile(&mut self, tile: FileTile<C>, lines: &mut Vec<Line>) -> Result<(), AllocError>
-        ensures lines { OnOk result (lines.new.items ≡ lines.old.items ++ enter_line (shown tile).rows (shown tile).cols (enter_answer C.Cell.kind (held self.old.book self.old.store.items) (shown tile)) ∷ []) }
-        ensures state { OnOk result (held self.new.book self.new.store.items ≡ enter_state C.Cell.kind (held self.old.book self.old.store.items) (shown tile)) }
+    fn tile(&mut self, tile: &FileTile<'_, C>, lines: &mut Vec<Line>) -> Result<(), AllocError>
+        ensures lines { OnOk result (lines.new.items ≡ lines.old.items ++ enter_line (shown C.Cell.reading tile.now.body).rows (shown C.Cell.reading tile.now.body).cols (enter_answer C.Cell.kind (held self.old.book self.old.store.items) (shown C.Cell.reading tile.now.body)) ∷ []) }
+        ensures state { OnOk result (held self.new.book self.new.store.items ≡ enter_state C.Cell.kind (held self.old.book self.old.store.items) (shown C.Cell.reading tile.now.body)) }
     {
-        let view = tile.view();
+        self.cells.clear();
+        tile.read_to(&mut self.cells)?;
+        let view = tile.view(self.cells.as_slice());
         let answer = self.book.enter(self.store.as_mut_slice(), &view);
         lines.push(enter_line(view.rows, view.cols, answer))?;
         Ok(())
@@ -86,7 +97,12 @@ impl<C: Cell, E: Engine<C>> Report<C> for BookReport<'_, C, E> {
     ) -> Result<(), AllocError> {
         let found = self
             .book
-            .judge(self.store.as_slice(), self.engine, draft, &mut self.work)
+            .judge(
+                self.store.as_slice(),
+                self.engine,
+                draft,
+                self.work.as_mut_slice(),
+            )
             .unwrap()
             .found;
         if found > 0 {
@@ -113,7 +129,7 @@ impl<C: Cell, E: Engine<C>> BookReport<'_, C, E> {
             let tile = self.book.tile(self.store.as_slice(), n).unwrap();
             let found = self
                 .engine
-                .find(draft, &tile.view, &mut self.work, &mut list)
+                .find(draft, &tile.view, self.work.as_mut_slice(), &mut list)
                 .unwrap();
             push_places(n, &list[..found.places.min(list.len())], lines)?;
         }

@@ -84,8 +84,8 @@ fn verify_sheet<C: Cell + Default>(
     let Sheet((rows, cols), count, refusal) = sheet;
     let cells = vec![in heap; C::default(); *count]?;
     let bytes = vec![in heap; b'.'; count.saturating_mul(C::BYTES)]?;
-    let over_cells = CellSheet::over(*rows, *cols, cells.as_slice());
-    let over_bytes = ByteSheet::<C>::over(*rows, *cols, bytes.as_slice());
+    let over_cells = CellSheet::over(*rows, *cols, cells.as_slice()).map(|mut s| s.look(0, 0));
+    let over_bytes = ByteSheet::<C>::over(*rows, *cols, bytes.as_slice()).map(|mut s| s.look(0, 0));
     assert!(rt; over_cells.err() == *refusal, "case {at}");
     assert!(rt; over_bytes.err() == *refusal, "case {at}");
     Ok(())
@@ -112,7 +112,7 @@ fn sheets_are_made_up_to_their_limits(rt: HostRuntime) -> Result<(), Fail> {
 #[test]
 fn byte_sheets_are_made_of_whole_cells_that_read(rt: HostRuntime) {
     for (i, Bytes((rows, cols), bytes, refusal)) in BYTES.iter().enumerate() {
-        let made = ByteSheet::<Lift>::over(*rows, *cols, bytes);
+        let made = ByteSheet::<Lift>::over(*rows, *cols, bytes).map(|mut s| s.look(0, 0));
         assert!(rt; made.err() == *refusal, "case {i}");
     }
     let cut = ByteSheet::<Thread>::over(1, 2, b"12345");

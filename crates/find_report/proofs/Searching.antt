@@ -12,11 +12,11 @@ use Rattle.grids.proofs.Spots.{length-spots}
 use Rattle.engine.specs.Rules.{Rule}
 use Rattle.engine.specs.Finding.{find_answer, find_list}
 use Rattle.lines.specs.declared.Line.{Line}
-use Rattle.lines.specs.declared.Line.TheVariants.{Tile as TileLine}
+use Rattle.lines.specs.declared.Line.TheVariants.{Tile as TileLine, Draft}
 use Rattle.reports.specs.Reports.{place_line, numbered_lines}
 use Rattle.reports.proofs.Finding.{finds, list_kept, places_shown}
 use Rattle.reports.proofs.Numbered.{numbered_more}
-use Rattle.find_report.specs.Report.{tile_lines}
+use Rattle.find_report.specs.Report.{tile_lines, draft_lines}
 
 -- a grid has room for the places of a tile
 places_few : {C : Type 0} (k : Kind C) (g : Grid C) (t : Tile C) → Valid t → length (places k g (laid t)) ≤ g.rows * g.cols
@@ -56,3 +56,11 @@ module _ {C : Type 0} (k : Kind C) (rule : Rule C) (g h : Grid C) (ts : List (Ti
         long = omega (arith, s.long, list_kept k rule h t w f list new answer listing, ap (λ u. u.rows * u.cols) e);
         lines = numbered_more (tile_lines k rule g) ts n d old mid more l s.lines (told placed more p m ∙ (ap (λ u. mid ++ tile_lines k rule u n t) s.same ∙ ap (λ u. mid ++ tile_lines k rule g n u) i));
       }
+
+-- there is no next tile, and the line of the draft was added
+pub searched_all : {C : Type 0} (k : Kind C) (rule : Rule C) (g h : Grid C) (ts : List (Tile C)) (n : ℕ) (list : List Position) (old mid : List Line) → Searched k rule g h ts n list old mid → length ts ≤ n → (rows cols m : ℕ) (new : List Line) → new ≡ mid ++ Draft rows cols m ∷ [] → rows ≡ g.rows → cols ≡ g.cols → m ≡ length ts → new ≡ old ++ draft_lines k rule ts g
+searched_all k rule g h ts n list old mid s l rows cols m new e r c z =
+    let ls = numbered_lines (tile_lines k rule g) 0 ts in
+    let done : mid ≡ old ++ ls = s.lines ∙ ap (λ us. old ++ numbered_lines (tile_lines k rule g) 0 us) (take_all n ts l) in
+    e ∙ (ap (λ x. x ++ Draft rows cols m ∷ []) done ∙ (append_assoc old ls (Draft rows cols m ∷ [])
+    ∙ ap (λ d. old ++ (ls ++ d ∷ [])) (ap (λ x. Draft x cols m) r ∙ (ap (λ x. Draft g.rows x m) c ∙ ap (Draft g.rows g.cols) z))))

@@ -4,7 +4,7 @@
 ghost use Rattle.std.specs.Prelude.{◌≡◌, IfOk, Some, string_bytes};
 ghost use Rattle.lines.specs.Rendering.{rendered, page};
 
-use std::alloc::{AllocError, Global};
+use std::alloc::Global;
 use std::fmt;
 
 /// A line of output.
@@ -86,7 +86,7 @@ impl fmt::Display for Line {
 }
 
 /// The text of some lines.
-pub fn render(heap: Global, lines: &[Line]) -> Result<String, AllocError>
+pub fn render(heap: Global, lines: &[Line]) -> Result<String, fmt::Error>
     ensures { IfOk result (λ s. string_bytes s ≡ page lines.now) }
 {
     let mut text = String::new(heap);

@@ -5,7 +5,7 @@ use cells::{Lift, Thread};
 use find_report::find_text;
 use plain::Plain;
 use reports::LONGEST;
-use std::alloc::{AllocError, Global};
+use std::alloc::Global;
 use std::env;
 use std::io::Read;
 
@@ -37,7 +37,7 @@ fn chosen(args: &[String]) -> Option<Kind> {
     }
 }
 
-fn text(heap: Global, kind: Kind, input: &[u8]) -> Result<String, AllocError> {
+fn text(heap: Global, kind: Kind, input: &[u8]) -> anyhow::Result<String> {
     match kind {
         Kind::Lifts => find_text::<Lift, Plain>(heap, &Plain, input),
         Kind::Threads => find_text::<Thread, Plain>(heap, &Plain, input),

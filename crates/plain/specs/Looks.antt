@@ -1,8 +1,9 @@
 -- How many looks the plain engine takes. Assumes nothing.
-use Rattle.std.specs.Prelude.{ℕ, zero, suc, ◌+◌, ◌*◌, ◌≤◌, Bool, cond, sum_by}
+use Rattle.std.specs.Prelude.{ℕ, zero, suc, ◌+◌, ◌*◌, ◌≤◌, Bool, cond, List, [], ◌∷◌, sum_by}
 use Rattle.std.proofs.Common.{arith}
+use Rattle.std.specs.List.{AllByRecursion}
+use Rattle.std.proofs.ByRecursion.{sum_by_le}
 use Rattle.std.proofs.lemmas.Bool.{cond_both}
-use Rattle.std.proofs.lemmas.List.Sums.{sum_by-le}
 use Rattle.grids.specs.declared.Position.{Position}
 use Rattle.grids.specs.Kinds.{Kind}
 use Rattle.grids.specs.Grids.{Grid, Tile, laid}
@@ -28,8 +29,12 @@ pub tested_le : (p : ℕ → Bool) (i n : ℕ) → tested_from p i n ≤ n
 tested_le p i zero = omega arith
 tested_le p i (suc n) = cond_both (p i) (tested_from p (i + 1) n) 0 (λ m. 1 + m ≤ suc n) (λ _. omega (arith, tested_le p (i + 1) n)) (λ _. omega arith)
 
+all_each : {X : Type 0} (P : X → Type 0) → ((x : X) → P x) → (xs : List X) → AllByRecursion P xs
+all_each P f [] = tt
+all_each P f (x ∷ xs) = (f x, all_each P f xs)
+
 pub sum_le : (f : Position → ℕ) (m n b : ℕ) → ((q : Position) → f q ≤ b) → sum_by f (spots m n) ≤ m * n * b
-sum_le f m n b h = rw length-spots at (sum_by-le f b (spots m n) (λ k d l. h _))
+sum_le f m n b h = rw length-spots at (sum_by_le f b (spots m n) (all_each (λ q. f q ≤ b) h (spots m n)))
 
 pub plain_bound : {C : Type 0} (k : Kind C) (g : Grid C) (t : Tile C) → plain_looks k g (laid t) ≤ alignments g (laid t) * (t.rows * t.cols + 2)
 plain_bound k g t =

@@ -1,7 +1,7 @@
 -- Cells that are read one after another.
-use Rattle.std.proofs.Common.{◌≡◌, ℕ, zero, suc, ◌+◌, ◌*◌, ◌/◌, ◌<◌, ◌≤◌, true, false, List, [], ◌∷◌, ◌++◌, length, take, drop, set, is_some, Some, None, Option, unwrap_or, sym, refl, ap, ◌∙◌, ⊎_elim, suc-mul, zero-mul, add-one, arith, length-append}
+use Rattle.std.proofs.Common.{◌≡◌, ℕ, zero, suc, ◌+◌, ◌*◌, ◌/◌, ◌<◌, ◌≤◌, true, false, List, [], ◌∷◌, ◌++◌, length, take, drop, set, is_some, Some, None, Option, unwrap_or, sym, refl, ap, ◌∙◌, ⊎_elim, suc-mul, zero-mul, add-one, arith, length-append, append_assoc}
 use Rattle.std.specs.List.{slice_get}
-use Rattle.std.proofs.lemmas.List.{length-set, length-take, length-drop, take_at, drop_at, drop-drop, take-take, drop-take}
+use Rattle.std.proofs.lemmas.List.{append-nil, length-set, length-take, length-drop, take_at, drop_at, drop-drop, take-take, drop-take}
 use Rattle.std.proofs.Math.Nat.{le-div_iff_mul-le}
 use Rattle.std.proofs.lemmas.Bool.{both_ways, cases_Bool}
 use Rattle.cells.specs.Readings.{Reading, Readable}
@@ -156,6 +156,39 @@ module _ {C : Type 0} (k : Reading C) where
 
   pub copied_all : (n : ℕ) (bs : List ℕ) (old : List C) (i m w : ℕ) (rest : List ℕ) (new : List C) → Copied n bs old i m w rest new → m ≡ 0 → new ≡ listed (cells_of k n bs) old
   copied_all n bs old i m w rest new c z = ap (λ j. filled i (cells_of k j rest) new) (sym z) ∙ c.left
+
+  -- of n cells of bs, those of the last m, whose bytes are at the front of rest, are still to come after those of old, which gave new
+  pub record Added (n : ℕ) (bs : List ℕ) (old : List C) (m w : ℕ) (rest : List ℕ) (new : List C) : Type 0 where
+    pub wide : w ≡ k.width
+    pub read : is_some (cells_read k m rest) ≡ true
+    pub left : new ++ cells_of k m rest ≡ old ++ cells_of k n bs
+
+  pub added_none : (n : ℕ) (bs : List ℕ) (old : List C) (m w : ℕ) (rest : List ℕ) (new : List C) → m ≡ n → rest ≡ bs → w ≡ k.width → is_some (cells_read k n bs) ≡ true → new ≡ old → Added n bs old m w rest new
+  added_none n bs old m w rest new e f d h o =
+      record {
+        wide = d;
+        read = ap (λ j. is_some (cells_read k j rest)) e ∙ (ap (λ ys. is_some (cells_read k n ys)) f ∙ h);
+        left = ap (λ xs. xs ++ cells_of k m rest) o ∙ (ap (λ j. old ++ cells_of k j rest) e ∙ ap (λ ys. old ++ cells_of k n ys) f);
+      }
+
+  -- a part that comes reads as a cell
+  pub added_reads : (n : ℕ) (bs : List ℕ) (old : List C) (m w : ℕ) (rest : List ℕ) (new : List C) (j v : ℕ) (more x : List ℕ) → Added n bs old m w rest new → Step m w rest j v more x → is_some (k.reads x) ≡ true
+  added_reads n bs old m w rest new j v more x c s = (onto_parts (k.reads x) (cells_read k j more) (ap is_some (sym (cells_step m w rest j v more x c.wide s)) ∙ c.read)).0
+
+  pub added_more : (n : ℕ) (bs : List ℕ) (old : List C) (m w : ℕ) (rest : List ℕ) (new : List C) (j v : ℕ) (more x : List ℕ) (y : C) (next : List C) → Added n bs old m w rest new → Step m w rest j v more x → k.reads x ≡ Some y → next ≡ new ++ y ∷ [] → Added n bs old j v more next
+  added_more n bs old m w rest new j v more x y next c s e f =
+      let p = cells_read k j more in
+      let q = cells_step m w rest j v more x c.wide s in
+      let r = (onto_parts (k.reads x) p (ap is_some (sym q) ∙ c.read)).1 in
+      let z : cells_of k m rest ≡ y ∷ unwrap_or p [] = ap (λ o. unwrap_or o []) q ∙ onto_value (k.reads x) p y e r in
+      record {
+        wide = s.size ∙ c.wide;
+        read = r;
+        left = ap (λ xs. xs ++ cells_of k j more) f ∙ (append_assoc new (y ∷ []) (cells_of k j more) ∙ (ap (λ xs. new ++ xs) (sym z) ∙ c.left));
+      }
+
+  pub added_all : (n : ℕ) (bs : List ℕ) (old : List C) (m w : ℕ) (rest : List ℕ) (new : List C) → Added n bs old m w rest new → m ≡ 0 → new ≡ old ++ cells_of k n bs
+  added_all n bs old m w rest new c z = sym (append-nil new) ∙ (ap (λ j. new ++ cells_of k j rest) (sym z) ∙ c.left)
 
   -- there are as many cells as were asked for
   pub length_cells : (n : ℕ) (bs : List ℕ) → is_some (cells_read k n bs) ≡ true → length (cells_of k n bs) ≡ n

@@ -1,11 +1,14 @@
--- The cells of a tile record, read into memory of their own.
-use Rattle.std.proofs.Common.{◌≡◌, ℕ, List, ◌++◌, length, take, sym, ap, ◌∙◌, arith}
-use Rattle.std.proofs.lemmas.List.{take_all, take_at}
-use Rattle.grids.specs.Listed.{listed}
-use Rattle.grids.proofs.Writing.{length-listed, listed_front}
+-- The cells of a tile record.
+use Rattle.std.proofs.Common.{◌*◌}
+use Rattle.grids.specs.Grids.{Valid}
+use Rattle.cells.specs.Readings.{Reading}
+use Rattle.readings.proofs.InTurn.{length_cells}
+use Rattle.records.specs.declared.Body.{Body}
+use Rattle.records.specs.Marks.{tile as tile_mark}
+use Rattle.records.specs.Entries.{entry_of}
+use Rattle.records.specs.Sound.{Sound}
+use Rattle.reports.specs.Tiles.{shown}
 
--- memory of n cells holds the n cells xs after they were written to its front
-pub holds : {C : Type 0} (xs old new rest : List C) (n : ℕ) → length xs ≡ n → length old ≡ n → new ≡ listed xs old → take n (new ++ rest) ≡ xs
-holds xs old new rest n x o e =
-    let l = length-listed xs old in
-    take_at new rest n (ap length e ∙ (l ∙ o)) ∙ (e ∙ (sym (take_all (length xs) (listed xs old) (omega arith)) ∙ listed_front xs old (omega arith)))
+-- a sound tile record's tile is valid
+pub shown_valid : {C : Type 0} (r : Reading C) (b : Body) → Sound r 32 (entry_of tile_mark b) → Valid (shown r b)
+shown_valid r b s = record { some_rows = s.some_rows; few_rows = s.few_rows; some_cols = s.some_cols; few_cols = s.few_cols; whole = length_cells r (b.rows * b.cols) b.cells.now s.read }

@@ -1,7 +1,8 @@
 -- The lines of a file, one record after another.
-use Rattle.std.proofs.Common.{◌≡◌, ℕ, zero, suc, ◌+◌, ◌<◌, List, [], ◌∷◌, ◌++◌, length, drop, Some, None, Ok, Err, Option, Result, sym, refl, ap, ◌∙◌, append_assoc, arith}
+use Rattle.std.proofs.Common.{◌≡◌, ℕ, zero, suc, ◌+◌, ◌<◌, ltb, List, [], ◌∷◌, ◌++◌, length, drop, Some, None, Ok, Err, Option, Result, sym, refl, ap, ◌∙◌, append_assoc, arith}
 use Rattle.std.specs.Option.{option_map}
 use Rattle.std.proofs.lemmas.List.{append-nil, length-drop}
+use Rattle.std.proofs.lemmas.Bool.{cond-true, lt-ltb}
 use Rattle.cells.specs.Readings.{Reading}
 use Rattle.records.specs.declared.Record.{Record}
 use Rattle.records.specs.Entries.{Entry, FaultAt, entry}
@@ -9,7 +10,7 @@ use Rattle.records.specs.Fronts.{Front, end, faulty, whole, front, next_answer, 
 use Rattle.records.specs.Files.{filed, file_from}
 use Rattle.records.proofs.Fronting.{Took, took}
 use Rattle.lines.specs.declared.Line.{Line}
-use Rattle.lines.specs.declared.Line.TheVariants.{Fault}
+use Rattle.lines.specs.declared.Line.TheVariants.{Fault, TooLong}
 use Rattle.reports.specs.Reports.{fault_lines, entries_lines, file_lines, report}
 
 -- a reader's answer, where what it found is p
@@ -50,6 +51,10 @@ module _ {C : Type 0} (r : Reading C) where
         let f = record_took in
         let y : after ≡ drop f.0 rest = q ∙ ap (handed_on rest) f.1 in
         omega (arith, ap length y, length-drop f.0 rest, f.2.some, f.2.within)
+
+-- the lines of an input that is too long
+pub report_long : {C S : Type 0} (says : S → Entry → List Line) (next : S → Entry → S) (r : Reading C) (s : S) (bs : List ℕ) → 65535 < length bs → TooLong ∷ [] ≡ report says next r s bs
+report_long says next r s bs h = sym (cond-true (ltb 65535 (length bs)) (TooLong ∷ []) _ (lt-ltb 65535 (length bs) h))
 
 -- a report of the bytes bs, begun in the state `start`, has come to the state s, byte `at` and the bytes rest
 pub record Reached {C S : Type 0} (says : S → Entry → List Line) (next : S → Entry → S) (r : Reading C) (start : S) (bs : List ℕ) (s : S) (at : ℕ) (rest : List ℕ) (lines : List Line) : Type 0 where

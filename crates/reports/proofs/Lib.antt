@@ -1,4 +1,4 @@
 pub mod Files
-pub mod Cells
 pub mod Finding
 pub mod Numbered
+pub mod Cells

@@ -1,54 +1,59 @@
-ghost use Rattle.std.specs.Prelude.{◌≡◌, IfOk};
-ghost use Rattle.grids.specs.Grids.{Valid, tile};
+ghost use Rattle.std.specs.Prelude.{◌≡◌, ◌++◌, is_ok, if◌then◌else◌};
+ghost use Rattle.grids.specs.Grids.{tile};
 ghost use Rattle.engine.specs.Views.{viewed};
 ghost use Rattle.records.specs.Marks.{tile as tile_mark};
 ghost use Rattle.records.specs.Entries.{entry_of};
 ghost use Rattle.records.specs.Sound.{Sound};
-ghost use Rattle.reports.specs.Reports.{entry_tile};
+ghost use Rattle.reports.specs.Tiles.{shown};
 
 use cells::Cell;
 use engine::TileView;
-use readings::read_cells;
 use records::Body;
-use std::alloc::{AllocError, Global};
+use std::alloc::AllocError;
+use std::marker::PhantomData;
 
-/// A tile of a file, its cells read into memory of its own.
+/// A tile of a file, its cells as they stand there; they all read.
+// They are read when they are needed, into memory of the report's: memory of its own for each tile took
+// twice the time on a file of many tiles.
 #[derive(Drop)]
-pub struct FileTile<C> {
-    rows: usize,
-    cols: usize,
-    cells: Vec<C>,
-    ghost valid: { Valid (tile rows cols cells.items) },
+pub struct FileTile<'f, C: Cell> {
+    pub body: Body<'f>,
+    kind: PhantomData<C>,
+    ghost sound: { Sound C.Cell.reading 32 (entry_of tile_mark body) },
 }
 
-impl<C: Copy> FileTile<C> {
-    ghost use Rattle.reports.specs.Tiles.{shown};
-
-    /// The tile, lent.
-    pub fn view(&self) -> TileView<'_, C>
-        ensures { viewed result ≡ shown self.now }
+impl<'f, C: Cell> FileTile<'f, C> {
+    // A tile record that was read.
+    pub(crate) fn new(body: Body<'f>) -> FileTile<'f, C>
+        requires { Sound C.Cell.reading 32 (entry_of tile_mark body) }
+        ensures { result.body ≡ body.entry }
     {
-        TileView {
-            rows: self.rows,
-            cols: self.cols,
-            cells: self.cells.as_slice(),
+        FileTile {
+            body,
+            kind: PhantomData,
         }
     }
-}
 
-impl<C: Cell + Default> FileTile<C> {
-    // Reads the cells of a tile record.
-    pub(crate) fn read(heap: Global, body: &Body<'_>) -> Result<FileTile<C>, AllocError>
-        requires { Sound C.Cell.reading 32 (entry_of tile_mark body.now) }
-        ensures { IfOk result (λ t. tile t.rows t.cols t.cells.items ≡ entry_tile C.Cell.reading (entry_of tile_mark body.now)) }
+    /// A tile of its size, with the given cells.
+    pub fn view<'c>(&self, cells: &'c [C]) -> TileView<'c, C>
+        ensures { viewed result ≡ tile (shown C.Cell.reading self.now.body).rows (shown C.Cell.reading self.now.body).cols cells.now }
     {
-        let count = body.rows * body.cols;
-        let mut cells = vec![in heap; C::default(); count]?;
-        read_cells(count, body.cells, cells.as_mut_slice()).unwrap();
-        Ok(FileTile {
-            rows: body.rows,
-            cols: body.cols,
+        TileView {
+            rows: self.body.rows,
+            cols: self.body.cols,
             cells,
-        })
+        }
+    }
+
+    /// Reads its cells to the end of a list; all of them, or none where memory is wanting.
+    pub fn read_to(&self, cells: &mut Vec<C>) -> Result<(), AllocError>
+        ensures { cells.new.items ≡ (if is_ok result then cells.old.items ++ (shown C.Cell.reading self.now.body).cells else cells.old.items) }
+    {
+        let count = self.body.rows * self.body.cols;
+        cells.reserve(count)?;
+        for bytes in self.body.cells.chunks_exact(C::BYTES).take(count) {
+            cells.push_reserved(C::read(bytes).unwrap());
+        }
+        Ok(())
     }
 }

@@ -1,7 +1,8 @@
 //! What all reports share: the lines that a program answers for a record file, one record after another.
 #![tactic(auto)]
 
-ghost use Rattle.std.specs.Prelude.{◌≡◌, ◌++◌, map, IfOk, OnOk};
+ghost use Rattle.std.specs.Prelude.{◌≡◌, [], ◌∷◌, ◌++◌, map, IfOk, OnOk};
+ghost use Rattle.lines.specs.declared.Line.TheVariants.{TooLong};
 ghost use Rattle.records.specs.Marks.{limit};
 ghost use Rattle.records.specs.Entries.{entry};
 ghost use Rattle.records.specs.Sound.{Sound};
@@ -22,9 +23,6 @@ use std::alloc::{AllocError, Global};
 /// How many bytes an input may have.
 pub const LONGEST: usize = 65535;
 
-/// A work table, as long as every engine needs it.
-pub type WorkTable = [u32; 12288];
-
 /// What is made of the records of a file, one after another.
 pub trait Report<C: Cell> {
     /// What the report keeps from record to record.
@@ -37,9 +35,9 @@ pub trait Report<C: Cell> {
     ghost telling: { Telling C State };
 
     /// Takes up a tile, and adds the lines of it.
-    fn tile(&mut self, tile: FileTile<C>, lines: &mut Vec<Line>) -> Result<(), AllocError>
-        ensures lines { OnOk result (lines.new.items ≡ lines.old.items ++ telling.tile_lines (state self.old) (shown tile)) }
-        ensures state { OnOk result (state self.new ≡ telling.tile_state (state self.old) (shown tile)) };
+    fn tile(&mut self, tile: &FileTile<'_, C>, lines: &mut Vec<Line>) -> Result<(), AllocError>
+        ensures lines { OnOk result (lines.new.items ≡ lines.old.items ++ telling.tile_lines (state self.old) (shown C.Cell.reading tile.now.body)) }
+        ensures state { OnOk result (state self.new ≡ telling.tile_state (state self.old) (shown C.Cell.reading tile.now.body)) };
 
     /// Takes up a draft, and adds the lines of it.
     fn draft<D: Draft<Cell = C>>(
@@ -51,23 +49,31 @@ pub trait Report<C: Cell> {
         ensures state { OnOk result (state self.new ≡ telling.draft_state (state self.old) (D.Draft.shows draft.old)) };
 }
 
+/// The lines of an input over 65,535 bytes.
+pub fn too_long(heap: Global) -> Result<Vec<Line>, AllocError>
+    ensures { IfOk result (λ v. v.items ≡ TooLong ∷ []) }
+{
+    let mut lines = Vec::new(heap);
+    lines.push(Line::TooLong)?;
+    Ok(lines)
+}
+
 /// The lines of a record file.
-pub fn report_file<C: Cell + Default, R: Report<C>>(
+pub fn report_file<C: Cell, R: Report<C>>(
     heap: Global,
     reporter: &mut R,
     input: &[u8],
 ) -> Result<Vec<Line>, AllocError>
     ensures { IfOk result (λ v. v.items ≡ report (says R.Report.telling C.Cell.reading) (next R.Report.telling C.Cell.reading) C.Cell.reading (R.Report.state reporter.old) input.now) }
 {
-    let mut lines = Vec::new(heap);
     if input.len() > LONGEST {
-        lines.push(Line::TooLong)?;
-        return Ok(lines);
+        return too_long(heap);
     }
+    let mut lines = Vec::new(heap);
     let mut reader = Reader::new(input);
     loop {
         match reader.next::<C>() {
-            Ok(Some(record)) => report_record(heap, reporter, record, &mut lines)?,
+            Ok(Some(record)) => report_record(reporter, record, &mut lines)?,
             Ok(None) => return Ok(lines),
             Err(fault) => {
                 // By hand: lines knows no records, and records no lines.
@@ -82,8 +88,7 @@ pub fn report_file<C: Cell + Default, R: Report<C>>(
 }
 
 // Hands a record of the file to the report.
-fn report_record<C: Cell + Default, R: Report<C>>(
-    heap: Global,
+fn report_record<C: Cell, R: Report<C>>(
     reporter: &mut R,
     record: Record<'_>,
     lines: &mut Vec<Line>,
@@ -93,7 +98,7 @@ fn report_record<C: Cell + Default, R: Report<C>>(
     ensures state { OnOk result (R.Report.state reporter.new ≡ next R.Report.telling C.Cell.reading (R.Report.state reporter.old) (entry «record».entry)) }
 {
     match record {
-        Record::Tile(body) => reporter.tile(FileTile::read(heap, &body)?, lines),
+        Record::Tile(body) => reporter.tile(&FileTile::new(body), lines),
         Record::Draft(body) => {
             let mut sheet = ByteSheet::<C>::over(body.rows, body.cols, body.cells).unwrap();
             reporter.draft(&mut sheet, lines)

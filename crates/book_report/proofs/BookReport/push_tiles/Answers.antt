@@ -19,7 +19,7 @@ loop-n-preserved g c =
     let within : c.loop-n.n < length s.tiles = omega (arith, length_cut (sizes b.book) b.store.items, c.loop-n-test.true, c.count-n-end.ensures) in
     let t = viewed c.unwrap-tile.result.view in
     let is : t ≡ get_or s.tiles c.loop-n.n no_tile = search rules in
-    pushed_more c.loop-n.invariant g.E.Engine.rule t (length c.loop-n.self.work) c.min.result c.find.result c.unwrap-found.result c.loop-n.list c.find.new.list within is c.unwrap-found.ensures c.find.ensures.answer c.find.ensures.listing (omega arith) (omega (arith, c.min.ensures)) c.find.ensures.same c.in_ok-push_places.ensures
+    pushed_more c.loop-n.invariant g.E.Engine.rule t _ c.min.result c.find.result c.unwrap-found.result c.loop-n.list c.find.new.list within is c.unwrap-found.ensures c.find.ensures.answer c.find.ensures.listing (omega arith) (omega (arith, c.min.ensures)) c.find.ensures.same c.in_ok-push_places.ensures
 
 pub returns-clause-lines : goal.returns-clause-lines
 returns-clause-lines g c =
