@@ -69,7 +69,7 @@ struct BookReport<'e, C, E> {
     ghost stored: { Stored (held book store.items) },
 }
 
-impl<C: Cell, E: Engine<C>> Report<C> for BookReport<'_, C, E> {
+impl<C: Cell + Default, E: Engine<C>> Report<C> for BookReport<'_, C, E> {
     ghost State = { Held C };
 
     ghost state = { λ r. held r.book r.store.items };

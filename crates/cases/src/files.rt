@@ -133,13 +133,17 @@ static LONG_FILES: [Long; 11] = [
 ];
 
 /// What is printed of a file that begins with one part and ends with another.
-pub(crate) fn printed<C: Cell>(heap: Global, front: &[u8], rest: &[u8]) -> anyhow::Result<String> {
+pub(crate) fn printed<C: Cell + Default>(
+    heap: Global,
+    front: &[u8],
+    rest: &[u8],
+) -> anyhow::Result<String> {
     let mut file = front.to_vec(heap)?;
     file.extend_from_slice(rest)?;
     find_text::<C, Plain>(heap, &Plain, file.as_slice())
 }
 
-fn verify_reports<C: Cell>(
+fn verify_reports<C: Cell + Default>(
     rt: &(impl Abort + AllocGlobal),
     reports: &[Report],
 ) -> Result<(), Fail> {

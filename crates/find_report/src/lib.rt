@@ -17,7 +17,7 @@ use std::alloc::{AllocError, Global};
 
 /// Looks through each draft of a record file for each tile that stands before it in the file. What is
 /// reported of a tile are exactly its places, each once, in reading order.
-pub fn find_report<C: Cell, E: Engine<C>>(
+pub fn find_report<C: Cell + Default, E: Engine<C>>(
     heap: Global,
     engine: &E,
     input: &[u8],
@@ -40,7 +40,7 @@ pub fn find_report<C: Cell, E: Engine<C>>(
 
 /// The text of that report.
 // As book_text: a shared function could not name the report's own definitions.
-pub fn find_text<C: Cell, E: Engine<C>>(
+pub fn find_text<C: Cell + Default, E: Engine<C>>(
     heap: Global,
     engine: &E,
     input: &[u8],
@@ -72,7 +72,7 @@ struct Search<'a, C, E> {
     ghost kept: { Kept sizes.items cells.items } by { kept_prop sizes.items cells.items },
 }
 
-impl<'a, C: Cell, E: Engine<C>> Report<C> for Search<'a, C, E> {
+impl<'a, C: Cell + Default, E: Engine<C>> Report<C> for Search<'a, C, E> {
     ghost State = { List (Tile C) };
 
     ghost state = { λ s. cut s.sizes.items s.cells.items };

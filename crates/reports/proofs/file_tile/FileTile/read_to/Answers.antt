@@ -1,5 +1,6 @@
-use Rattle.std.proofs.Common.{◌≡◌, ◌*◌, ◌≤◌, true, length, is_some, sym, ap, ◌∙◌, arith, rules}
+use Rattle.std.proofs.Common.{◌≡◌, ◌*◌, ◌≤◌, true, length, is_some, sym, ap, ◌∙◌, arith}
 use Rattle.readings.proofs.InTurn.{Step, no_more, cells_long, added_none, added_reads, added_more, added_all}
+use Rattle.reports.proofs.Cells.{unwrapped}
 use Rattle.reports.proofs.file_tile.FileTile.read_to.Goals as goal
 
 pub loop-bytes-init : goal.loop-bytes-init
@@ -16,19 +17,13 @@ loop-bytes-init g c =
 pub push_reserved-requires : goal.push_reserved-requires
 push_reserved-requires g c = omega (arith, c.in-Some.ensures.steps.1, c.loop-bytes.invariant.1)
 
-pub unwrap-requires : goal.unwrap-requires
-unwrap-requires g c =
-    let s = c.in-Some.ensures.steps in
-    let step : Step _ _ _ _ _ _ c.in-Some.bytes.now = record { fewer = s.1; size = s.0.0; parts = s.0.1.0; long = s.0.1.1 } in
-    let y : is_some c.read.result ≡ true = ap is_some c.read.ensures ∙ added_reads g.C.Cell.reading _ _ _ _ _ _ _ _ _ _ _ c.loop-bytes.invariant.0 step in
-    search rules
-
 pub loop-bytes-preserved : goal.loop-bytes-preserved
 loop-bytes-preserved g c =
     let s = c.in-Some.ensures.steps in
     let step : Step _ _ _ _ _ _ c.in-Some.bytes.now = record { fewer = s.1; size = s.0.0; parts = s.0.1.0; long = s.0.1.1 } in
     let p = c.push_reserved.ensures in
-    (added_more g.C.Cell.reading _ _ _ _ _ _ _ _ _ _ _ _ _ c.loop-bytes.invariant.0 step (sym c.read.ensures ∙ c.unwrap.ensures) p.items, omega (arith, s.1, p.len, p.capacity, c.loop-bytes.invariant.1))
+    let y : is_some c.read.result ≡ true = ap is_some c.read.ensures ∙ added_reads g.C.Cell.reading _ _ _ _ _ _ _ _ _ _ _ c.loop-bytes.invariant.0 step in
+    (added_more g.C.Cell.reading _ _ _ _ _ _ _ _ _ _ _ _ _ c.loop-bytes.invariant.0 step (sym c.read.ensures ∙ unwrapped _ c.read.result c.unwrap_or_default.result c.unwrap_or_default.ensures y) p.items, omega (arith, s.1, p.len, p.capacity, c.loop-bytes.invariant.1))
 
 pub returns : goal.returns
 returns g c =
