@@ -6,7 +6,6 @@ ghost use Rattle.engine.specs.Finding.{tile_checks, work_checks, find_refusal};
 
 use crate::TileView;
 use grids::{Refusal, sized};
-use std::alloc::AllocError;
 
 /// A lent tile that has passed its checks.
 #[derive(Drop)]
@@ -14,15 +13,6 @@ pub struct ValidTile<'a, C> {
     pub view: TileView<'a, C>,
     ghost valid: { Valid (viewed view) },
 }
-
-// By hand: Clone is not derived over a ghost field.
-impl<'a, C: Copy> Clone for ValidTile<'a, C> {
-    fn clone(&self) -> Result<ValidTile<'a, C>, AllocError> {
-        Ok(*self)
-    }
-}
-
-impl<'a, C: Copy> Copy for ValidTile<'a, C> {}
 
 impl<'a, C: Copy> TileView<'a, C> {
     /// The tile as a valid one; refuses a wrong size, and then a wrong length.
