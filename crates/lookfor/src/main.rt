@@ -1,7 +1,7 @@
 //! Finds the tiles of a record file in its drafts: lookfor ENGINE KIND < FILE
 #![tactic(auto)]
 
-use cells::{Cell, Lift, Thread};
+use cells::{Lift, Thread};
 use find_report::find_text;
 use plain::Plain;
 use reports::LONGEST;
@@ -37,10 +37,11 @@ fn chosen(args: &[String]) -> Option<Kind> {
     }
 }
 
-// The search of a kind is a function of its own: in main the compiler lays it so that it takes longer.
-#[inline(never)]
-fn text<C: Cell + Default>(heap: Global, input: &[u8]) -> anyhow::Result<String> {
-    find_text::<C, Plain>(heap, &Plain, input)
+fn text(heap: Global, kind: Kind, input: &[u8]) -> anyhow::Result<String> {
+    match kind {
+        Kind::Lifts => find_text::<Lift, Plain>(heap, &Plain, input),
+        Kind::Threads => find_text::<Thread, Plain>(heap, &Plain, input),
+    }
 }
 
 // Reading and printing stand in each program: a shared function for them could promise nothing.
@@ -53,10 +54,6 @@ fn main(rt: HostRuntime) -> anyhow::Result<()> {
     };
     let mut input = Vec::new(heap);
     rt.stdin().take(MOST).read_to_end(&mut input)?;
-    let text = match kind {
-        Kind::Lifts => text::<Lift>(heap, input.as_slice())?,
-        Kind::Threads => text::<Thread>(heap, input.as_slice())?,
-    };
-    rt.print(text)?;
+    rt.print(text(heap, kind, input.as_slice())?)?;
     Ok(())
 }

@@ -69,13 +69,14 @@ pub fn find<C: Cell, D: Draft<Cell = C>>(
 }
 
 /// Looks at one cell of the draft, and says whether it is the given one.
-fn agree_at<C: Cell, D: Draft<Cell = C>>(draft: &mut D, row: usize, col: usize, cell: C) -> bool
+// Lent: with a copy of the cell, lifts that agree to the last one took a twelfth more instructions.
+fn agree_at<C: Cell, D: Draft<Cell = C>>(draft: &mut D, row: usize, col: usize, cell: &C) -> bool
     requires { (row < (D.Draft.shows draft.old).rows) × (col < (D.Draft.shows draft.old).cols) }
-    ensures answer { result ≡ alike C.Cell.kind ((D.Draft.shows draft.old).at row col) (Some cell) }
+    ensures answer { result ≡ alike C.Cell.kind ((D.Draft.shows draft.old).at row col) (Some cell.now) }
     ensures same { D.Draft.shows draft.new ≡ D.Draft.shows draft.old }
     ensures counts { D.Draft.tally draft.new ≡ raised (D.Draft.tally draft.old) 1 }
 {
-    draft.look(row, col) == Some(cell)
+    draft.look(row, col).as_ref() == Some(cell)
 }
 
 /// A search of a draft for a tile, and what it has found so far.
@@ -106,7 +107,7 @@ impl<C: Cell, D: Draft<Cell = C>> Search<'_, C, D> {
         'tile: for i in 0..rows {
             for j in 0..cols {
                 looks += 1;
-                let cell = cells[i * cols + j];
+                let cell = &cells[i * cols + j];
                 if !agree_at(draft, corner.row + i, corner.col + j, cell) {
                     agrees = false;
                     break 'tile;
