@@ -7,7 +7,7 @@ ghost use Rattle.grids.specs.Refusals.{numbered};
 ghost use Rattle.book.specs.Models.{Held, held, Stored};
 ghost use Rattle.book.specs.Entering.{enter_answer, enter_state};
 ghost use Rattle.reports.specs.Reports.{numbered_lines};
-ghost use Rattle.reports.specs.Tiles.{shown};
+ghost use Rattle.reports.specs.Tiles.{body_tile};
 ghost use Rattle.book_report.specs.Report.{Answers, Prints, enter_line, verdict_line, place_lines, telling};
 
 use book::Book;
@@ -16,7 +16,7 @@ use drafts::Draft;
 use engine::Engine;
 use grids::{Position, Refusal};
 use lines::{Line, render};
-use reports::{FileTile, LONGEST, Report, push_places, report_file, too_long};
+use reports::{LONGEST, RecordReport, TileRecord, push_places, report_records, too_long};
 use std::alloc::{AllocError, Global};
 
 /// Enters the tiles of a record file in a book, and looks over its drafts by the tiles then held. Which
@@ -28,7 +28,7 @@ pub fn book_report<C: Cell + Default, E: Engine<C>>(
 ) -> Result<Vec<Line>, AllocError>
     ensures { IfOk result (λ v. Answers C.Cell.kind C.Cell.reading input.now v.items) }
 {
-    // Before memory is asked for; report_file would only see it after that.
+    // Before memory is asked for; report_records would only see it after that.
     if input.len() > LONGEST {
         return too_long(heap);
     }
@@ -39,7 +39,7 @@ pub fn book_report<C: Cell + Default, E: Engine<C>>(
         book: Book::new(),
         store: vec![in heap; C::default(); 4096]?,
     };
-    report_file(heap, &mut report, input)
+    report_records(heap, &mut report, input)
 }
 
 /// The text of that report.
@@ -69,7 +69,7 @@ struct BookReport<'e, C, E> {
     ghost stored: { Stored (held book store.items) },
 }
 
-impl<C: Cell + Default, E: Engine<C>> Report<C> for BookReport<'_, C, E> {
+impl<C: Cell + Default, E: Engine<C>> RecordReport<C> for BookReport<'_, C, E> {
     ghost State = { Held C };
 
     ghost state = { λ r. held r.book r.store.items };
@@ -77,9 +77,9 @@ impl<C: Cell + Default, E: Engine<C>> Report<C> for BookReport<'_, C, E> {
     ghost telling = { telling C.Cell.kind };
 
     // Enters a tile, and says what came of it.
-    fn tile(&mut self, tile: &FileTile<'_, C>, lines: &mut Vec<Line>) -> Result<(), AllocError>
-        ensures lines { OnOk result (lines.new.items ≡ lines.old.items ++ enter_line (shown C.Cell.reading tile.now.body).rows (shown C.Cell.reading tile.now.body).cols (enter_answer C.Cell.kind (held self.old.book self.old.store.items) (shown C.Cell.reading tile.now.body)) ∷ []) }
-        ensures state { OnOk result (held self.new.book self.new.store.items ≡ enter_state C.Cell.kind (held self.old.book self.old.store.items) (shown C.Cell.reading tile.now.body)) }
+    fn tile(&mut self, tile: &TileRecord<'_, C>, lines: &mut Vec<Line>) -> Result<(), AllocError>
+        ensures lines { OnOk result (lines.new.items ≡ lines.old.items ++ enter_line (body_tile C.Cell.reading tile.now.body).rows (body_tile C.Cell.reading tile.now.body).cols (enter_answer C.Cell.kind (held self.old.book self.old.store.items) (body_tile C.Cell.reading tile.now.body)) ∷ []) }
+        ensures state { OnOk result (held self.new.book self.new.store.items ≡ enter_state C.Cell.kind (held self.old.book self.old.store.items) (body_tile C.Cell.reading tile.now.body)) }
     {
         self.cells.clear();
         tile.read_to(&mut self.cells)?;

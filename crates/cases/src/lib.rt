@@ -5,6 +5,8 @@
 #[cfg(test)]
 mod faults;
 #[cfg(test)]
+mod file_tiles;
+#[cfg(test)]
 mod files;
 #[cfg(test)]
 mod find_limits;

@@ -3,7 +3,7 @@
 
 ghost use Rattle.std.specs.Prelude.{◌≡◌, ◌≤◌, List, [], ◌∷◌, ◌++◌, length, IfOk, OnOk, string_bytes};
 ghost use Rattle.grids.specs.Grids.{Tile};
-ghost use Rattle.reports.specs.Tiles.{shown};
+ghost use Rattle.reports.specs.Tiles.{body_tile};
 ghost use Rattle.find_report.specs.Report.{Answers, Prints, telling};
 ghost use Rattle.find_report.specs.Kept.{cut, Kept, kept_prop};
 
@@ -12,7 +12,7 @@ use drafts::Draft;
 use engine::{Engine, TileView};
 use grids::{Found, Position};
 use lines::{Line, render};
-use reports::{FileTile, LONGEST, Report, push_places, report_file, too_long};
+use reports::{LONGEST, RecordReport, TileRecord, push_places, report_records, too_long};
 use std::alloc::{AllocError, Global};
 
 /// Looks through each draft of a record file for each tile that stands before it in the file. What is
@@ -24,7 +24,7 @@ pub fn find_report<C: Cell + Default, E: Engine<C>>(
 ) -> Result<Vec<Line>, AllocError>
     ensures { IfOk result (λ v. Answers C.Cell.kind C.Cell.reading E.Engine.rule input.now v.items) }
 {
-    // Before memory is asked for; report_file would only see it after that.
+    // Before memory is asked for; report_records would only see it after that.
     if input.len() > LONGEST {
         return too_long(heap);
     }
@@ -35,7 +35,7 @@ pub fn find_report<C: Cell + Default, E: Engine<C>>(
         sizes: Vec::new(heap),
         cells: Vec::new(heap),
     };
-    report_file(heap, &mut search, input)
+    report_records(heap, &mut search, input)
 }
 
 /// The text of that report.
@@ -72,7 +72,7 @@ struct Search<'a, C, E> {
     ghost kept: { Kept sizes.items cells.items } by { kept_prop sizes.items cells.items },
 }
 
-impl<'a, C: Cell + Default, E: Engine<C>> Report<C> for Search<'a, C, E> {
+impl<'a, C: Cell + Default, E: Engine<C>> RecordReport<C> for Search<'a, C, E> {
     ghost State = { List (Tile C) };
 
     ghost state = { λ s. cut s.sizes.items s.cells.items };
@@ -80,9 +80,9 @@ impl<'a, C: Cell + Default, E: Engine<C>> Report<C> for Search<'a, C, E> {
     ghost telling = { telling C.Cell.kind E.Engine.rule };
 
     // Keeps a tile for the drafts after it.
-    fn tile(&mut self, tile: &FileTile<'_, C>, lines: &mut Vec<Line>) -> Result<(), AllocError>
+    fn tile(&mut self, tile: &TileRecord<'_, C>, lines: &mut Vec<Line>) -> Result<(), AllocError>
         ensures lines { OnOk result (lines.new.items ≡ lines.old.items ++ []) }
-        ensures state { OnOk result (cut self.new.sizes.items self.new.cells.items ≡ cut self.old.sizes.items self.old.cells.items ++ shown C.Cell.reading tile.now.body ∷ []) }
+        ensures state { OnOk result (cut self.new.sizes.items self.new.cells.items ≡ cut self.old.sizes.items self.old.cells.items ++ body_tile C.Cell.reading tile.now.body ∷ []) }
     {
         // Room first, so that sizes and cells stay together where memory is wanting.
         self.sizes.reserve(1)?;

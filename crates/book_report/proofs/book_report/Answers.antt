@@ -20,9 +20,9 @@ returns g c =
     let k = g.C.Cell.kind in
     let cs = c.in_ok-vec-2.field-0.items in
     let long : length cs ≡ 4096 = omega (arith, c.in_ok-vec-2.ensures.len) in
-    IfOk-weaker c.report_file.result _ _
+    IfOk-weaker c.report_records.result _ _
     (λ v h. record {
       lines = λ store l. h ∙ report_alike k g.C.Cell.reading _ (empty store) c.args.input.now (record { tiles = ap (λ ss. cut ss cs) c.new-2.ensures.tiles; long = long ∙ sym l });
       exact = exactly k g.met.C.Cell.lawful;
     })
-    c.report_file.ensures
+    c.report_records.ensures

@@ -19,4 +19,4 @@ returns g c =
     let k = g.C.Cell.kind in
     let r = g.C.Cell.reading in
     let t = telling k g.E.Engine.rule in
-    IfOk-weaker c.report_file.result _ _ (λ v h. record { lines = h ∙ ap (λ zs. report (says t r) (next t r) r (cut zs c.new-2.result.items) c.args.input.now) c.new.ensures.items; exact = exactly k g.met.C.Cell.lawful }) c.report_file.ensures
+    IfOk-weaker c.report_records.result _ _ (λ v h. record { lines = h ∙ ap (λ zs. report (says t r) (next t r) r (cut zs c.new-2.result.items) c.args.input.now) c.new.ensures.items; exact = exactly k g.met.C.Cell.lawful }) c.report_records.ensures

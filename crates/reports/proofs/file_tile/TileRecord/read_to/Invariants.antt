@@ -1,7 +1,7 @@
 use Rattle.std.proofs.Common.{◌+◌, ◌*◌, ◌≤◌}
 use Rattle.std.specs.Vec.{vec_len, vec_capacity}
 use Rattle.readings.proofs.InTurn.{Added}
-use Rattle.reports.proofs.file_tile.FileTile.read_to.Given as goal
+use Rattle.reports.proofs.file_tile.TileRecord.read_to.Given as goal
 
 abbrev pub invariant-loop-bytes : goal.invariant-loop-bytes
 invariant-loop-bytes g l =

@@ -1,7 +1,7 @@
 use Rattle.std.proofs.Common.{[], ◌∷◌, ◌++◌, vec_items, ap, ◌∙◌}
 use Rattle.lines.specs.declared.Line.TheVariants.{Fault}
 use Rattle.reports.proofs.Files.{answer_is, record_took, shrinks, reached_end, reached_fault, reached_more}
-use Rattle.reports.proofs.report_file.Goals as goal
+use Rattle.reports.proofs.report_records.Goals as goal
 
 pub report_record-requires : goal.report_record-requires
 report_record-requires g c = (record_took g.C.Cell.reading c.loop-record.reader.at c.loop-record.reader.bytes (answer_is c.in-Ok-Some.field-0-is c.in-Ok-Some.ensures.answer)).2.sound

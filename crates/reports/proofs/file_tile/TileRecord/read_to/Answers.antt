@@ -1,7 +1,7 @@
 use Rattle.std.proofs.Common.{◌≡◌, ◌*◌, ◌≤◌, true, length, is_some, sym, ap, ◌∙◌, arith}
 use Rattle.readings.proofs.InTurn.{Step, no_more, cells_long, added_none, added_reads, added_more, added_all}
 use Rattle.reports.proofs.Cells.{unwrapped}
-use Rattle.reports.proofs.file_tile.FileTile.read_to.Goals as goal
+use Rattle.reports.proofs.file_tile.TileRecord.read_to.Goals as goal
 
 pub loop-bytes-init : goal.loop-bytes-init
 loop-bytes-init g c =

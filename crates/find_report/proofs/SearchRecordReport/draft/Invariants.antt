@@ -2,7 +2,7 @@ use Rattle.std.proofs.Common.{◌≤◌, length, vec_items}
 use Rattle.find_report.specs.Kept.{cut}
 use Rattle.find_report.proofs.Keeping.{Left}
 use Rattle.find_report.proofs.Searching.{Searched}
-use Rattle.find_report.proofs.SearchReport.draft.Given as goal
+use Rattle.find_report.proofs.SearchRecordReport.draft.Given as goal
 
 abbrev pub invariant-loop-n : goal.invariant-loop-n
 invariant-loop-n g l =

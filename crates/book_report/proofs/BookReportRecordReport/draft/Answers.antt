@@ -5,8 +5,8 @@ use Rattle.book.specs.Judging.{found_in}
 use Rattle.reports.specs.Reports.{numbered_lines}
 use Rattle.book_report.specs.Report.{verdict_line, place_lines}
 use Rattle.book_report.proofs.Pushing.{no_lines}
-use Rattle.book_report.proofs.BookReportReport.draft.Goals as goal
-use Rattle.book_report.proofs.BookReportReport.draft.Goals.{then-found-gt0+in_ok-push_tiles, else-found-gt0}
+use Rattle.book_report.proofs.BookReportRecordReport.draft.Goals as goal
+use Rattle.book_report.proofs.BookReportRecordReport.draft.Goals.{then-found-gt0+in_ok-push_tiles, else-found-gt0}
 
 pub returns-clause-lines : goal.returns-clause-lines
 returns-clause-lines g c =

@@ -6,7 +6,7 @@ use Rattle.find_report.specs.declared.Size.{Size}
 use Rattle.find_report.specs.Kept.{cut}
 use Rattle.find_report.proofs.Keeping.{Left, first_whole, length_cut, next_valid, next_is, next_left}
 use Rattle.find_report.proofs.Searching.{all_fit, searched_more, searched_all}
-use Rattle.find_report.proofs.SearchReport.draft.Goals as goal
+use Rattle.find_report.proofs.SearchRecordReport.draft.Goals as goal
 
 pub split_at-requires : goal.split_at-requires
 split_at-requires g c =
